@@ -452,7 +452,8 @@ fn is_well_known(asked: &Asked<'_>) -> bool
 /// `right`, that it is right for what the store shows at the path, and at the one that is opened or listed for what
 /// stands there, unless a fault was met. Either way memory may be refused. `asks` says, of a store that looks at the
 /// path by one call and opens a file by so many, as it is now, how many calls of the disk it takes, where no page is
-/// given; `bounded`, of one that looks and opens by so many at most, how many it takes at most. `opened` says where the body's file was opened, and that it is what that file became by calls of its own.
+/// given; `bounded`, of one that looks and opens by so many at most, how many it takes at most. `opened` says where the
+/// body's file was opened, and that it is what that file became by calls of its own.
 pub fn handle_get<S: GuardedFileSystem<C>, C>(
     alloc: Global,
     settings: &Settings,

@@ -17,11 +17,11 @@ use Rattle.dav_core.specs.World.{World}
 use Rattle.dav_core.proofs.Paths.{front_join, front_rest, parent_pushed}
 use Rattle.dav_model.specs.Calls.{calls_from_root, is_link_on_way, is_on_way}
 use Rattle.dav_model.specs.Folds.{Name, fold_name, fold_path}
-use Rattle.dav_local.specs.FromRoot.{CostsAtMost, StepsFew}
+use Rattle.dav_local.specs.FromRoot.{CostsAtMost, CostsBy, StepsFew}
 use Rattle.dav_local.specs.Near.{CallsAtMost, SearchesFew, members_at}
 use Rattle.dav_local.specs.Places.{Place}
 use Rattle.dav_local.specs.Walking.{IsAlikeIn}
-use Rattle.dav_local.proofs.Counted.{few_called, few_more, few_then}
+use Rattle.dav_local.proofs.Counted.{few_called, few_more, few_then, unasked}
 use Rattle.dav_local.proofs.Rows.{any_of, none_of, path_in}
 
 -- ---- rows that are counted
@@ -175,6 +175,37 @@ pub costs_before : (a b c : ℕ) (p m q : Place) (names : Names) → b + a ≤ c
 costs_before a b c p m q names le costs few = λ w told clear.
     few_more (calls_from_root w names + b + a) (calls_from_root w names + c) p.disk q.disk (omega (arith, le))
     (few_then (calls_from_root w names + b) a p.disk m.disk q.disk (costs w told clear) few)
+
+-- ---- by whether a path is found without the disk
+
+pub costs_known : (few more : ℕ) (known : Bool) (p q : Place) (names : Names) → known ≡ true → CallsAtMost few p.disk q.disk → CostsBy known few more p names q
+costs_known few more true p q names is calls = calls
+costs_known few more false p q names is calls = cc
+
+pub costs_unknown : (few more : ℕ) (known : Bool) (p q : Place) (names : Names) → known ≡ false → CostsAtMost more p names q → CostsBy known few more p names q
+costs_unknown few more true p q names is costs = cc
+costs_unknown few more false p q names is costs = costs
+
+pub known_costs : (few more : ℕ) (known : Bool) (p q : Place) (names : Names) → known ≡ true → CostsBy known few more p names q → CallsAtMost few p.disk q.disk
+known_costs few more true p q names is costs = costs
+known_costs few more false p q names is costs = cc
+
+pub unknown_costs : (few more : ℕ) (known : Bool) (p q : Place) (names : Names) → known ≡ false → CostsBy known few more p names q → CostsAtMost more p names q
+unknown_costs few more true p q names is costs = cc
+unknown_costs few more false p q names is costs = costs
+
+-- nothing is asked
+pub costs_none : (few more : ℕ) (known : Bool) (p q : Place) (names : Names) → q.disk ≡ p.disk → CostsBy known few more p names q
+costs_none few more true p q names same = unasked few p.disk q.disk same
+costs_none few more false p q names same = costs_few 0 more p q names (omega arith) (unasked 0 p.disk q.disk same)
+
+-- so many calls behind it
+pub costs_behind : (a few more few_now more_now : ℕ) (known : Bool) (p m q : Place) (names : Names) → few + a ≤ few_now → more + a ≤ more_now → CostsBy known few more p names m → CallsAtMost a m.disk q.disk
+    → CostsBy known few_now more_now p names q
+costs_behind a few more few_now more_now true p m q names le none costs calls = few_more (few + a) few_now p.disk q.disk le (few_then few a p.disk m.disk q.disk costs calls)
+costs_behind a few more few_now more_now false p m q names none le costs calls = costs_before a more more_now p m q names le costs calls
+
+-- ---- members
 
 -- A member of a directory that folds like the one above the path.
 taken_few : (p q : Place) (names above there : Names) (name : Name) → names ≡ above ++ name ∷ [] → fold_path there ≡ fold_path above → SearchesFew p.disk there q.disk → CostsAtMost 0 p names q

@@ -33,19 +33,21 @@ use Rattle.dav_local.specs.declared.file.LocalFsFile.{LocalFsFile}
 use Rattle.dav_local.specs.declared.gathering.LocalFsReadDir.{LocalFsReadDir}
 use Rattle.dav_local.specs.Calls.{AfterFound, IsOpening, LooksAt, is_shut}
 use Rattle.dav_local.specs.Files.{filed}
-use Rattle.dav_local.specs.FromRoot.{CostsAtMost}
+use Rattle.dav_local.specs.FromRoot.{CostsAtMost, CostsBy}
 use Rattle.dav_local.specs.Gathering.{BeginsDir}
 use Rattle.dav_local.specs.LocalFiles.{local_file}
 use Rattle.dav_local.specs.Near.{Calls, CallsAtMost, FindsAtOnce, FindsHere, IsAtOnce, KeepsAsked, KeepsPaths, KeepsSeen, MissesUnasked, OpensThereByTwo, SeeksIn, SeeksNear, SeesThere, SoughtIn, StandsClear, members_at}
 use Rattle.dav_local.specs.Places.{Place}
 use Rattle.dav_local.specs.Remembering.{IsRemembered}
+use Rattle.dav_local.specs.Resolving.{Resolves}
 use Rattle.dav_local.specs.Saving.{AsksOneCall, OpensAsAsked, OpensByTwo, OpensOnce, SavesAt, SavesDir, SavesLook, SavesOpen, SavesOpening, SeesAsAsked, SeesOnce, is_judged}
 use Rattle.dav_local.specs.Seeing.{AnswersSeen, OpensAt}
-use Rattle.dav_local.specs.Ways.{Ways, rules_of}
+use Rattle.dav_local.specs.Ways.{Ways, is_known, rules_of}
 use Rattle.dav_model.specs.Folds.{Name, fold_path}
 use Rattle.dav_local.proofs.Counted.{calls_then, few_called, few_more, few_then, one_then, unasked}
-use Rattle.dav_local.proofs.FromRoot.{costs_before, costs_few}
+use Rattle.dav_local.proofs.FromRoot.{costs_behind, costs_known, costs_none, costs_unknown}
 use Rattle.dav_local.proofs.Memories.{error_of}
+use Rattle.dav_local.proofs.MostSeen.{looked_at_few}
 use Rattle.dav_local.proofs.Recalling.{no_refusal, no_rise, same_folds}
 use Rattle.dav_local.proofs.NearFound.{got_unkept, in_as, nothing_after, nothing_before, seen_there, some_none, unseen}
 
@@ -265,26 +267,39 @@ saves_virtual p q path r is same = record {
   here = λ real. no_both (is_virtual (rules_of p.ways) path) is real;
   above = λ real. no_both (is_virtual (rules_of p.ways) path) is real;
   kept = λ real. no_both (is_virtual (rules_of p.ways) path) is real;
-  most = λ known. costs_few 0 6 p q path.names (omega arith) (unasked 0 p.disk q.disk (ap (λ (x : Place). x.disk) same));
+  most = costs_none 2 6 (is_known p.ways) p q path.names (ap (λ (x : Place). x.disk) same);
 }
 
-pub saves_look : (p q : Place) (path : WebPath) (names : Names) (slash : Bool) (r : Result Info FsError) → names ≡ path.names → slash ≡ has_slash p.ways.alone path → SavesAt p names r q
+pub saves_look : (p q : Place) (path : WebPath) (names : Names) (slash : Bool) (r : Result Info FsError) → is_known p.ways ≡ false → names ≡ path.names → slash ≡ has_slash p.ways.alone path → SavesAt p names r q
     → SeesAsAsked p names r q → SeeksNear 4 p names (LooksAt true slash) r q → KeepsSeen p names q → CostsAtMost 6 p names q → SavesLook p path r q
-saves_look p q path names slash r same slashed held here above kept most = record {
+saves_look p q path names slash r unknown same slashed held here above kept most = record {
   held = λ real. subst (λ n. SavesAt p n r q) same held;
   here = λ real known. subst (λ n. SeesAsAsked p n r q) same here;
   above = λ real known. subst (λ s. SeeksNear 4 p path.names (LooksAt true s) r q) slashed (subst (λ n. SeeksNear 4 p n (LooksAt true slash) r q) same above);
   kept = λ real known. subst (λ n. KeepsSeen p n q) same kept;
-  most = λ known. subst (λ n. CostsAtMost 6 p n q) same most;
+  most = costs_unknown 2 6 (is_known p.ways) p q path.names unknown (subst (λ n. CostsAtMost 6 p n q) same most);
 }
 
-pub saves_open : (p q : Place) (path : WebPath) (names : Names) (how : OpenOptions) (r : Result LocalFsFile FsError) → names ≡ path.names → SavesOpening p names r q → OpensAsAsked p names r q
+-- A path that is found without the disk is looked at by two calls at most.
+pub looks_known : (p m q : Place) (path : WebPath) (names at : Names) (found : Result Names FsError) (follows slash : Bool) (r : Result Info FsError) → is_known p.ways ≡ true → Resolves p names found m
+    → LooksAt follows slash at m r q → SavesLook p path r q
+looks_known p m q path names at found follows slash r known resolves looked = record {
+  held = λ real unknown. no_both (is_known p.ways) known unknown;
+  here = λ real unknown. no_both (is_known p.ways) known unknown;
+  above = λ real unknown. no_both (is_known p.ways) known unknown;
+  kept = λ real unknown. no_both (is_known p.ways) known unknown;
+  most =
+      costs_known 2 6 (is_known p.ways) p q path.names known
+      (subst (λ d. CallsAtMost 2 d q.disk) (ap (λ (x : Place). x.disk) (resolves.known known).0) (looked_at_few m q at follows slash r looked));
+}
+
+pub saves_open : (p q : Place) (path : WebPath) (names : Names) (how : OpenOptions) (r : Result LocalFsFile FsError) → is_known p.ways ≡ false → names ≡ path.names → SavesOpening p names r q → OpensAsAsked p names r q
     → SeeksNear 4 p names (OpensAt reading) r q → CostsAtMost 5 p names q → SavesOpen p path how r q
-saves_open p q path names how r same held here above most = record {
+saves_open p q path names how r unknown same held here above most = record {
   held = λ unshut reads. subst (λ n. SavesOpening p n r q) same held;
   here = λ unshut reads known. subst (λ n. OpensAsAsked p n r q) same here;
   above = λ unshut reads known. subst (λ n. SeeksNear 4 p n (OpensAt reading) r q) same above;
-  most = λ reads known. subst (λ n. CostsAtMost 5 p n q) same most;
+  most = λ reads. costs_unknown 1 5 (is_known p.ways) p q path.names unknown (subst (λ n. CostsAtMost 5 p n q) same most);
 }
 
 -- What these rules shut costs none.
@@ -295,7 +310,7 @@ shut_opening p path how is = (
     held = λ unshut. no_both (is_shut p.ways path) is unshut;
     here = λ unshut. no_both (is_shut p.ways path) is unshut;
     above = λ unshut. no_both (is_shut p.ways path) is unshut;
-    most = λ reads known. costs_few 0 5 p p path.names (omega arith) (inl refl);
+    most = λ reads. costs_none 1 5 (is_known p.ways) p p path.names refl;
   },
 )
 
@@ -334,24 +349,20 @@ not_known false true e = (refl, refl)
 not_known false false e = cc
 
 pub saves_dir : (p m q : Place) (path : WebPath) (at : Names) (gathers : Bool) (wanted : ReadDirMeta) (r : Result LocalFsReadDir FsError) → (p.ways.alone ≡ None → p.ways.folds ≡ true → FindsAtOnce p path.names m)
-    → p.disk.faults ≤ m.disk.faults → m.disk.faults ≤ q.disk.faults → BeginsDir gathers at wanted m.disk r q.disk → (p.ways.alone ≡ None → p.ways.folds ≡ true → CostsAtMost 4 p path.names m) → SavesDir p path r q
+    → p.disk.faults ≤ m.disk.faults → m.disk.faults ≤ q.disk.faults → BeginsDir gathers at wanted m.disk r q.disk → CostsBy (is_known p.ways) 0 4 p path.names m → SavesDir p path r q
 saves_dir p m q path at gathers wanted r finds first then begins most = record {
   held = λ known.
       (let (alone, folds) = not_known (is_some p.ways.alone) p.ways.folds known in
       dir_begun p m q path.names at gathers wanted r (finds (none_is p.ways.alone alone) folds) first then begins);
-  most = λ known.
-      (let (alone, folds) = not_known (is_some p.ways.alone) p.ways.folds known in
-      costs_before 2 4 6 p m q path.names (omega arith) (most (none_is p.ways.alone alone) folds) (begun_few gathers at wanted m.disk r q.disk begins));
+  most = costs_behind 2 0 4 2 6 (is_known p.ways) p m q path.names (omega arith) (omega arith) most (begun_few gathers at wanted m.disk r q.disk begins);
 }
 
 -- no directory is found
-pub unfound_dir : (p q : Place) (path : WebPath) (e : FsError) → (p.ways.alone ≡ None → p.ways.folds ≡ true → FindsAtOnce p path.names q) → (p.ways.alone ≡ None → p.ways.folds ≡ true → CostsAtMost 4 p path.names q)
+pub unfound_dir : (p q : Place) (path : WebPath) (e : FsError) → (p.ways.alone ≡ None → p.ways.folds ≡ true → FindsAtOnce p path.names q) → CostsBy (is_known p.ways) 0 4 p path.names q
     → SavesDir p path (Err e) q
 unfound_dir p q path e finds most = record {
   held = λ known nothing place once.
       (let (alone, folds) = not_known (is_some p.ways.alone) p.ways.folds known in
       few_more 1 3 p.disk q.disk (omega arith) (finds (none_is p.ways.alone alone) folds nothing place once));
-  most = λ known.
-      (let (alone, folds) = not_known (is_some p.ways.alone) p.ways.folds known in
-      costs_before 0 4 6 p q q path.names (omega arith) (most (none_is p.ways.alone alone) folds) (inl refl));
+  most = costs_behind 0 0 4 2 6 (is_known p.ways) p q q path.names (omega arith) (omega arith) most (inl refl);
 }

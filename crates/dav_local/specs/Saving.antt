@@ -16,7 +16,7 @@ use Rattle.dav_model.specs.Finding.{has_slash, is_virtual}
 use Rattle.dav_local.specs.declared.file.LocalFsFile.{LocalFsFile}
 use Rattle.dav_local.specs.declared.gathering.LocalFsReadDir.{LocalFsReadDir}
 use Rattle.dav_local.specs.Calls.{LooksAt, is_shut}
-use Rattle.dav_local.specs.FromRoot.{CostsAtMost}
+use Rattle.dav_local.specs.FromRoot.{CostsBy}
 use Rattle.dav_local.specs.Near.{Calls, CallsAtMost, IsAsAsked, IsAtOnce, KeepsSeen, SeeksNear}
 use Rattle.dav_local.specs.Places.{Place}
 use Rattle.dav_local.specs.Remembering.{IsRemembered}
@@ -50,14 +50,15 @@ abbrev pub SeeksAbove : {T : Type 0} → Place → Names → (Names → Place �
 SeeksAbove p names call result q = is_known p.ways ≡ false → SeeksNear 4 p names call result q
 
 -- The two empty files that clients of macOS look for cost none. Whatever the memory has, and whatever was refused, a look
--- costs six calls at most beside those of a walk from the root.
+-- costs two calls at most where names don't fold, or one file is served alone: with the rules for macOS the directory's
+-- time may be asked before the place. Where they fold, it costs six at most beside those of a walk from the root.
 pub record SavesLook (p : Place) (path : WebPath) (result : Result Info FsError) (q : Place) : Type 0 where
   pub held : is_virtual (rules_of p.ways) path ≡ false → SavesAt p path.names result q
   pub here : is_virtual (rules_of p.ways) path ≡ false → SeesHere p path.names result q
   pub above : is_virtual (rules_of p.ways) path ≡ false
       → SeeksAbove p path.names (LooksAt true (has_slash p.ways.alone path)) result q
   pub kept : is_virtual (rules_of p.ways) path ≡ false → is_known p.ways ≡ false → KeepsSeen p path.names q
-  pub most : is_known p.ways ≡ false → CostsAtMost 6 p path.names q
+  pub most : CostsBy (is_known p.ways) 2 6 p path.names q
 
 -- Where names fold and nothing was refused, an opening for reading at a path that is remembered costs one call of the
 -- disk: that by which it is found.
@@ -78,14 +79,15 @@ OpensAsAsked p names result q = RefusedNothing p.disk.faults q.disk.faults → I
 abbrev pub OpensHere : Place → Names → Result LocalFsFile FsError → Place → Type 0
 OpensHere p names result q = is_known p.ways ≡ false → OpensAsAsked p names result q
 
--- What these rules shut costs none. An opening costs five calls at most beside those of a walk from the root.
+-- What these rules shut costs none. An opening costs one call at most where names don't fold, or one file is served
+-- alone, and else five at most beside those of a walk from the root.
 pub record SavesOpen (p : Place) (path : WebPath) (how : OpenOptions) (result : Result LocalFsFile FsError) (q : Place)
     : Type 0 where
   pub held : is_shut p.ways path ≡ false → how ≡ reading → SavesOpening p path.names result q
   pub here : is_shut p.ways path ≡ false → how ≡ reading → OpensHere p path.names result q
   pub above : is_shut p.ways path ≡ false → how ≡ reading
       → SeeksAbove p path.names (OpensAt reading) result q
-  pub most : how ≡ reading → is_known p.ways ≡ false → CostsAtMost 5 p path.names q
+  pub most : how ≡ reading → CostsBy (is_known p.ways) 1 5 p path.names q
 
 -- A listing of a directory that is found at once, and that is refused: the path, the directory's time where names are
 -- gathered, and the listing.
@@ -93,10 +95,12 @@ abbrev pub SavesListing : Place → Names → Result LocalFsReadDir FsError → 
 SavesListing p names result q = is_known p.ways ≡ false → RefusedNothing p.disk.faults q.disk.faults → (at : Names)
     → IsAtOnce p names at → OnErr result (CallsAtMost 3 p.disk q.disk)
 
--- The beginning of a listing costs six calls at most beside those of a walk from the root.
+-- The beginning of a listing costs two calls at most where names don't fold, or one file is served alone: with the rules
+-- for macOS the directory's time is asked before it. Where they fold, it costs six at most beside those of a walk from
+-- the root.
 pub record SavesDir (p : Place) (path : WebPath) (result : Result LocalFsReadDir FsError) (q : Place) : Type 0 where
   pub held : SavesListing p path.names result q
-  pub most : is_known p.ways ≡ false → CostsAtMost 6 p path.names q
+  pub most : CostsBy (is_known p.ways) 2 6 p path.names q
 
 -- The memory is asked for a path, and what stands there is opened: where it has the path, one call of the disk opens it,
 -- or is refused for want of memory.

@@ -15,13 +15,13 @@ ghost use Rattle.dav_store.specs.Standing.{info_in};
 ghost use Rattle.dav_local.specs.Calls.{Looks, LooksAt, MakesDefaults, MakesOne, TellsAbsent, is_shut as the_is_shut};
 ghost use Rattle.dav_local.specs.contracts.fs.LocalFs.{the_row};
 ghost use Rattle.dav_local.specs.Files.{local_info};
-ghost use Rattle.dav_local.specs.FromRoot.{CostsAtMost};
+ghost use Rattle.dav_local.specs.FromRoot.{CostsBy};
 ghost use Rattle.dav_local.specs.Near.{FindsAtOnce};
 ghost use Rattle.dav_local.specs.Places.{Stays, place_of};
 ghost use Rattle.dav_local.specs.Remembering.{KeepsAbove, KeepsWork, RemembersRows, SavesWork};
 ghost use Rattle.dav_local.specs.Saving.{SavesLook};
 ghost use Rattle.dav_local.specs.Resolving.{Resolves};
-ghost use Rattle.dav_local.specs.Ways.{resolved_by, rules_of};
+ghost use Rattle.dav_local.specs.Ways.{is_known as the_is_known, resolved_by, rules_of};
 
 use crate::acts::make_missing;
 use crate::lists::look_by;
@@ -151,8 +151,8 @@ impl<D: Disk, R: Remember> LocalFs<D, R> {
             → at ≡ resolved_by self.old.ways w.tree path.now.names) }
         ensures near { self.old.ways.alone ≡ None → self.old.ways.folds ≡ true
             → FindsAtOnce (place_of D.state R.state self.old) path.now.names (place_of D.state R.state self.new) }
-        ensures most { self.old.ways.alone ≡ None → self.old.ways.folds ≡ true
-            → CostsAtMost 4 (place_of D.state R.state self.old) path.now.names (place_of D.state R.state self.new) }
+        ensures most { CostsBy (the_is_known self.old.ways) 0 4 (place_of D.state R.state self.old) path.now.names
+            (place_of D.state R.state self.new) }
         ensures stays { Stays self.old self.new }
         ensures loan { D.loan self.new.disk ≡ D.loan self.old.disk }
     {

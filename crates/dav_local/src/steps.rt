@@ -5,12 +5,13 @@
 ghost use Rattle.std.specs.Prelude.{◌≡◌, IfOk, None, OnOk, Result, true};
 ghost use Rattle.dav_core.specs.declared.error.FsError.{FsError};
 ghost use Rattle.dav_core.specs.Path.{Names, is_plain};
-ghost use Rattle.dav_local.specs.FromRoot.{CostsAtMost, StepsFew};
+ghost use Rattle.dav_local.specs.FromRoot.{CostsAtMost, CostsBy, StepsFew};
 ghost use Rattle.dav_local.specs.Near.{CallsAtMost, FindsAtOnce, FindsDir, FindsDirHere, FindsHere, MissesUnasked, SearchesFew, SoughtIn};
 ghost use Rattle.dav_local.specs.Places.{Stays, place_of};
 ghost use Rattle.dav_local.specs.Remembering.{HasFirst, HasNext, KeepsAbove, KeepsWork, RemembersRows, SavesCalls, SavesWork};
 ghost use Rattle.dav_local.specs.Resolving.{Resolves, StandsFor, found_at};
 ghost use Rattle.dav_local.specs.Walking.{BringsAbove, BringsUnheld, FindsParent, Recalls, Remembers, StepsOn, TakesMember, Walks};
+ghost use Rattle.dav_local.specs.Ways.{is_known as the_is_known};
 
 use crate::LocalFs;
 use crate::lists::look;
@@ -33,8 +34,8 @@ impl<D: Disk, R: Remember> LocalFs<D, R> {
             (place_of D.state R.state self.new) }
         ensures near { self.old.ways.alone ≡ None → self.old.ways.folds ≡ true
             → FindsAtOnce (place_of D.state R.state self.old) path.now (place_of D.state R.state self.new) }
-        ensures most { self.old.ways.alone ≡ None → self.old.ways.folds ≡ true
-            → CostsAtMost 4 (place_of D.state R.state self.old) path.now (place_of D.state R.state self.new) }
+        ensures most { CostsBy (the_is_known self.old.ways) 0 4 (place_of D.state R.state self.old) path.now
+            (place_of D.state R.state self.new) }
         ensures stays { Stays self.old self.new }
         ensures loan { D.loan self.new.disk ≡ D.loan self.old.disk }
     {

@@ -46,6 +46,7 @@ use Rattle.dav_local.specs.Shown.{knowledge_of, place_in}
 use Rattle.dav_local.specs.Ways.{is_judged, is_known, rules_of}
 use Rattle.dav_local.proofs.NearSeen.{begun_few}
 use Rattle.dav_local.proofs.Counted.{few_called, few_more, unasked}
+use Rattle.dav_local.proofs.FromRoot.{known_costs, unknown_costs}
 use Rattle.dav_local_laws.specs.LocalStore.{IsLocalStore, place}
 
 pub or_parts : (a b : Bool) → (a || b) ≡ false → (a ≡ false) × (b ≡ false)
@@ -254,6 +255,19 @@ module _ {S C : Type 0} (view : View S C LocalFsFile) (lists : Listings S C Loca
     files = local.once;
   }
 
+  -- A look, an opening and a refused listing, whether the rules for macOS touch the path or not.
+  pub asks_unsought : (s : S) (q : Query) → is_known (ways s) ≡ true → AsksAtMostFor view lists q 2 s
+  asks_unsought s q known = record {
+    looks = λ t c r h. known_costs 2 6 (is_known (ways s)) (at s) (at t) q.path.names known (local.looks s t c q.path r h).3.most;
+    opens = λ m t c r kind path o looked on h keeps.
+        (let there : is_known (ways m) ≡ true = ap is_known (ways_after s m c q.path r looked) ∙ known in
+        few_more 1 2 (view.state m) (view.state t) (omega arith) (known_costs 1 5 (is_known (ways m)) (at m) (at t) path.names there ((local.opens_once m t c path reading o h).most refl)));
+    refuses_list = λ m t c r e looked h keeps.
+        (let there : is_known (ways m) ≡ true = ap is_known (ways_after s m c q.path r looked) ∙ known in
+        known_costs 2 6 (is_known (ways m)) (at m) (at t) q.path.names there (local.begins_once m t c q.path Data (Err e) h).most);
+    files = local.once;
+  }
+
   -- ---- found at once
 
   look_so : (held : Bool) (s t : S) (c : C) (path : WebPath) (r : Result Info FsError) (end : Names) → is_known (ways s) ≡ false → RefusedNothing (view.state s).faults (view.state t).faults
@@ -306,13 +320,13 @@ module _ {S C : Type 0} (view : View S C LocalFsFile) (lists : Listings S C Loca
 
   pub asks_sought : (s : S) (q : Query) (most : ℕ) (w : World) → is_known (ways s) ≡ false → (view.state s).told ≡ Some w → OfItsPaths q (IsWalkedBy most w) → AsksAtMostFor view lists q (calls_to_seek most) s
   asks_sought s q most w known told both = record {
-    looks = λ t c r h. walked 6 (at s) (at t) q.path.names w (omega arith) told (both.path.clear, both.path.few) ((local.looks s t c q.path r h).3.most known);
+    looks = λ t c r h. walked 6 (at s) (at t) q.path.names w (omega arith) told (both.path.clear, both.path.few) (unknown_costs 2 6 (is_known (ways s)) (at s) (at t) q.path.names known (local.looks s t c q.path r h).3.most);
     opens = λ m t c r kind path o looked on h keeps.
         (let (v, now, tree) = later m keeps in
-        walked 5 (at m) (at t) path.names v (omega arith) now (on_tree v path tree (at_opened q (IsWalkedBy most w) both kind path on)) ((local.opens_once m t c path reading o h).most refl (unknown m c r looked)));
+        walked 5 (at m) (at t) path.names v (omega arith) now (on_tree v path tree (at_opened q (IsWalkedBy most w) both kind path on)) (unknown_costs 1 5 (is_known (ways m)) (at m) (at t) path.names (unknown m c r looked) ((local.opens_once m t c path reading o h).most refl)));
     refuses_list = λ m t c r e looked h keeps.
         (let (v, now, tree) = later m keeps in
-        walked 6 (at m) (at t) q.path.names v (omega arith) now (on_tree v q.path tree both.path) ((local.begins_once m t c q.path Data (Err e) h).most (unknown m c r looked)));
+        walked 6 (at m) (at t) q.path.names v (omega arith) now (on_tree v q.path tree both.path) (unknown_costs 2 6 (is_known (ways m)) (at m) (at t) q.path.names (unknown m c r looked) (local.begins_once m t c q.path Data (Err e) h).most));
     files = local.once;
   }
     where

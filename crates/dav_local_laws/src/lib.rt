@@ -29,11 +29,11 @@ ghost use Rattle.dav_get.specs.Table.{Given};
 ghost use Rattle.dav_local.specs.FromRoot.{CostsAtMost};
 ghost use Rattle.dav_local.specs.Made.{MadeAt};
 ghost use Rattle.dav_local.specs.Remembering.{IsRemembered};
-ghost use Rattle.dav_local.specs.Near.{IsAsAsked, SeeksNear};
+ghost use Rattle.dav_local.specs.Near.{CallsAtMost, IsAsAsked, SeeksNear};
 ghost use Rattle.dav_local.specs.Saving.{AsksOneCall, OpensByTwo, is_judged};
 ghost use Rattle.dav_local.specs.Seeing.{OpensAt};
 ghost use Rattle.dav_local.specs.Shown.{knowledge_of};
-ghost use Rattle.dav_local.specs.Ways.{rules_of, rules_with};
+ghost use Rattle.dav_local.specs.Ways.{is_known, rules_of, rules_with};
 ghost use Rattle.dav_local.specs.declared.file.LocalFsFile.{LocalFsFile};
 ghost use Rattle.dav_local.specs.declared.fs.LocalFs.{LocalFs};
 ghost use Rattle.dav_methods.specs.Answers.{RefusesUsually};
@@ -111,14 +111,18 @@ pub fn reads_are_right<D: Disk, R: Remember>(_fs: &LocalFs<D, R>)
 }
 
 /// How often the local store asks its disk for a GET or HEAD. Where names don't fold, or one file is served alone, it
-/// asks once to look at a path that the rules for macOS don't touch, and once to open (`meant`). Where they fold, and the
-/// disk refuses nothing, it asks once to look at a path that its memory has, or that it hasn't and that stands as it is
-/// asked; and to open such a path once or twice (`near`). Where a listing is refused it asks three times at most. Where they
+/// asks once to look at a path that the rules for macOS don't touch, and once to open (`meant`). Whether they touch it or
+/// not, a look, an opening and a refused listing ask twice at most each (`unsought`). Where names fold, and the disk
+/// refuses nothing, it asks once to look at a path that its memory has, or that it hasn't and that stands as it is asked;
+/// and to open such a path once or twice (`near`). Where a listing is refused it asks three times at most. Where names
 /// fold, each of these three asks of any path six calls at most beside those of a walk from the root (`sought`).
 pub fn local_stores_ask_few<D: Disk, R: Remember>(_fs: &LocalFs<D, R>)
     ensures meant { (q : Query) (most : ℕ) → is_meant (rules_with q.settings _fs.now.ways) ≡ true
         → is_touched (rules_with q.settings _fs.now.ways) q.path ≡ false
         → AsksFor ⟦<LocalFs<D, R> as DavFileSystem>⟧.view ⟦<LocalFs<D, R> as DavFileSystem>⟧.listings q 1 most
+        _fs.now }
+    ensures unsought { (q : Query) → is_meant (rules_with q.settings _fs.now.ways) ≡ true
+        → AsksAtMostFor ⟦<LocalFs<D, R> as DavFileSystem>⟧.view ⟦<LocalFs<D, R> as DavFileSystem>⟧.listings q 2
         _fs.now }
     ensures near { (q : Query) (most : ℕ) (w : World) (held : Bool)
         → is_meant (rules_with q.settings _fs.now.ways) ≡ false
@@ -249,6 +253,27 @@ pub fn no_path_costs_more_than_a_walk<D: Disk, R: Remember>(_fs: &LocalFs<D, R>,
         → ⟦<LocalFs<D, R> as DavFileSystem>⟧.listings.lists _fs.now tt _path.now wanted result t
         → _fs.now.ways.folds ≡ true → _fs.now.ways.alone ≡ None
         → CostsAtMost 6 (place_of D.state R.state _fs.now) _path.now.names (place_of D.state R.state t) }
+{
+    calls_are_local(_fs)
+}
+
+/// Where names don't fold, or one file is served alone, a look asks the disk twice at most: with the rules for macOS the
+/// memory may ask the time of a path's directory before the path is looked at. An opening for reading asks it once at
+/// most, and the beginning of a listing twice, as it asks that time too where it gathers names. It is so whatever the
+/// memory has, whatever was refused and whatever the disk tells.
+pub fn paths_found_without_the_disk_cost_few<D: Disk, R: Remember>(
+    _fs: &LocalFs<D, R>,
+    _path: &DavPath,
+)
+    ensures looks { (result : Result Info FsError) (t : LocalFs D R)
+        → ⟦<LocalFs<D, R> as DavFileSystem>⟧.view.looks _fs.now tt _path.now result t
+        → is_known _fs.now.ways ≡ true → CallsAtMost 2 (D.state _fs.now.disk) (D.state t.disk) }
+    ensures opens { (result : Result LocalFsFile FsError) (t : LocalFs D R)
+        → ⟦<LocalFs<D, R> as DavFileSystem>⟧.view.opens _fs.now tt _path.now reading result t
+        → is_known _fs.now.ways ≡ true → CallsAtMost 1 (D.state _fs.now.disk) (D.state t.disk) }
+    ensures lists { (wanted : ReadDirMeta) (result : Result LocalFsReadDir FsError) (t : LocalFs D R)
+        → ⟦<LocalFs<D, R> as DavFileSystem>⟧.listings.lists _fs.now tt _path.now wanted result t
+        → is_known _fs.now.ways ≡ true → CallsAtMost 2 (D.state _fs.now.disk) (D.state t.disk) }
 {
     calls_are_local(_fs)
 }

@@ -198,13 +198,18 @@ abbrev pub AtMostUnlessKnown : ℕ → Bool → List Field → ℕ → ℕ → T
 AtMostUnlessKnown most true fields before after = after ≡ before
 AtMostUnlessKnown most false fields before after = AtMostUnlessPage most (is_of_page fields) before after
 
--- How often a GET or HEAD asks between two points. Where names don't fold, nothing is said of a path that these rules
--- touch. Where they fold, a path has a bound where it has no number, unless a link is met.
+-- How often a GET or HEAD asks between two points. Where names don't fold, a path that these rules touch has a bound, and
+-- any other a number. Where they fold, a path has a bound where it has no number, unless a link is met.
 pub record AsksToFind (rules : Rules) (k : Knowledge) (q : Query) (status : ℕ) (fields : List Field) (s t : Point)
     : Type 0 where
   pub meant : is_meant rules ≡ true → is_touched rules q.path ≡ false
       → AsksUnlessKnown 1 (is_well_known q.settings q.method q.path) (is_set q.settings.redirect) status fields s.asked
       t.asked
+  -- Where names don't fold, a look, an opening and a refused listing are two calls at most each: with the rules for macOS
+  -- the directory's time may be asked before the place. It is so whatever the memory has, and whatever was refused.
+  pub unsought : is_meant rules ≡ true
+      → AtMostUnlessKnown (calls_to_send 2 (is_set q.settings.redirect))
+      (is_well_known q.settings q.method q.path) fields s.asked t.asked
   -- where names fold and no fault was met
   pub near : is_meant rules ≡ false → RefusedNothing s.faults t.faults → (w : World) (held : Bool) → s.told ≡ Some w
       → AreNear held rules k w q

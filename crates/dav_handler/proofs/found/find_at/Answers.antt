@@ -18,6 +18,7 @@ returns-in-Ok-clause-done g c body = rw c.give.ensures.rest (
     (λ reply same. c.reads_are_right.ensures (query c.args.settings.now c.args.fields.now c.args.method c.args.path.now) c.handle_get.new.fs (Ok c.in-Ok.given) reply c.in-Ok.ensures.life (given_heard c.in-Ok.given c.in-Ok.ensures.heard) same)
     (record {
       meant = λ meant untouched. given_heard c.in-Ok.given (c.in-Ok.ensures.asks 1 (some_to_open true) (λ known. c.local_stores_ask_few.ensures.meant (query c.args.settings.now c.args.fields.now c.args.method c.args.path.now) _ meant untouched));
+      unsought = λ meant. given_heard c.in-Ok.given (c.in-Ok.ensures.bounded 2 (λ known. c.local_stores_ask_few.ensures.unsought (query c.args.settings.now c.args.fields.now c.args.method c.args.path.now) meant));
       near = λ meant nothing w held told near.
           given_heard c.in-Ok.given (c.in-Ok.ensures.asks (calls_to_open held) (some_to_open held) (λ known. c.local_stores_ask_few.ensures.near (query c.args.settings.now c.args.fields.now c.args.method c.args.path.now) _ w held meant nothing told near));
       sought = λ meant w most told both. given_heard c.in-Ok.given (c.in-Ok.ensures.bounded (calls_to_seek most) (λ known. c.local_stores_ask_few.ensures.sought (query c.args.settings.now c.args.fields.now c.args.method c.args.path.now) most w meant told both));
@@ -34,6 +35,7 @@ returns-in-Err-clause-done g c body =
     (λ reply had same. c.reads_are_right.ensures (query c.args.settings.now c.args.fields.now c.args.method c.args.path.now) c.handle_get.new.fs (Err c.in-Err.error) reply c.in-Err.ensures.life (unless_memory c.in-Err.error had c.in-Err.ensures.heard) same)
     (λ had. record {
       meant = λ meant untouched. unless_memory c.in-Err.error had (c.in-Err.ensures.asks 1 (some_to_open true) (λ known. c.local_stores_ask_few.ensures.meant (query c.args.settings.now c.args.fields.now c.args.method c.args.path.now) _ meant untouched));
+      unsought = λ meant. unless_memory c.in-Err.error had (c.in-Err.ensures.bounded 2 (λ known. c.local_stores_ask_few.ensures.unsought (query c.args.settings.now c.args.fields.now c.args.method c.args.path.now) meant));
       near = λ meant nothing w held told near.
           unless_memory c.in-Err.error had (c.in-Err.ensures.asks (calls_to_open held) (some_to_open held) (λ known. c.local_stores_ask_few.ensures.near (query c.args.settings.now c.args.fields.now c.args.method c.args.path.now) _ w held meant nothing told near));
       sought = λ meant w most told both. unless_memory c.in-Err.error had (c.in-Err.ensures.bounded (calls_to_seek most) (λ known. c.local_stores_ask_few.ensures.sought (query c.args.settings.now c.args.fields.now c.args.method c.args.path.now) most w meant told both));

@@ -13,7 +13,7 @@ returns-then-not-is_known-clause-done g c =
     let open_ : is_shut c.args.self.now.ways c.args.path.now ≡ false = cc (c.if-is_shut.ensures, c.is_shut.ensures) in
     let known : is_known c.args.self.now.ways ≡ false = cc (c.if-not-is_known.ensures, c.is_known.ensures) in
     let how : c.args.options ≡ reading = first_of (search rules, grind arith, cc) in
-    (open_asked _ _ _ c.names.result.now c.args.options _ (λ w told. g.met.D.Disk.world c.args.self.now.disk w told) open_ how known c.names.ensures.value c.open_alike.ensures.done, c.open_alike.ensures.stays, saves_open (place_of g.D.Disk.state g.R.Remember.state c.args.self.now) (place_of g.D.Disk.state g.R.Remember.state c.open_alike.new.self) c.args.path.now c.names.result.now c.args.options _ c.names.ensures.value c.open_alike.ensures.saved c.open_alike.ensures.here c.open_alike.ensures.above c.open_alike.ensures.most)
+    (open_asked _ _ _ c.names.result.now c.args.options _ (λ w told. g.met.D.Disk.world c.args.self.now.disk w told) open_ how known c.names.ensures.value c.open_alike.ensures.done, c.open_alike.ensures.stays, saves_open (place_of g.D.Disk.state g.R.Remember.state c.args.self.now) (place_of g.D.Disk.state g.R.Remember.state c.open_alike.new.self) c.args.path.now c.names.result.now c.args.options _ known c.names.ensures.value c.open_alike.ensures.saved c.open_alike.ensures.here c.open_alike.ensures.above c.open_alike.ensures.most)
 
 pub returns-clause-stays : goal.returns-clause-stays
 returns-clause-stays g c = record {
