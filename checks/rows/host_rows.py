@@ -4,12 +4,15 @@ What the machine alone decides is beyond the model: symbolic links, options that
 it doesn't take, and a disk whose folder isn't there.
 """
 from calls import DISK_TEXTS
-from disk import Disk, DiskError, Options
+from disk import SECOND, Disk, DiskError, Options
 from texts import Beyond, number, print_wanted, word
 
 REASONS = "symbolic links, a folder that isn't there, and places and options that the machine refuses"
 LONGEST, LAST_PLACE, FOREVER = 8192, 2**63 - 1, 10**9
 LETTERS = {"r": "read", "w": "write", "a": "append", "t": "truncate", "c": "create", "n": "create_new"}
+# The machine's clock shows a moment behind this one.
+YEAR_2020 = 1_577_836_800 * SECOND
+LOOKS = ("keep", "same", "number", "since", "when")
 KINDS = {"dir": "folder", "file": "file"}
 
 
@@ -26,6 +29,7 @@ class Machine:
 
     def __init__(self):
         self.disk, self.linked, self.alone = Disk(), set(), set()
+        self.disk.latest = YEAR_2020
 
     def folder(self, path):
         for end in range(1, len(path) + 1):
@@ -38,10 +42,10 @@ class Machine:
 
 
 class Below:
-    """A disk below a folder. A path whose text is too long for the machine is a fault."""
+    """A disk below a folder, and the look that was kept. A path whose text is too long for the machine is a fault."""
 
     def __init__(self, machine, root):
-        self.machine, self.root, self.faults = machine, root, 0
+        self.machine, self.root, self.faults, self.kept = machine, root, 0, None
         if root in machine.linked or root not in machine.disk.tree:
             raise Beyond
 
@@ -93,7 +97,27 @@ def listed(disk, path):
     return ", ".join(disk.list_next(names) or "end" for _ in range(2))
 
 
+def met(disk, path, how):
+    return disk.file_meta(disk.open(path, Options("read"))) if how in ("open", "again") else disk.meta(path)
+
+
+def looked(below, kind, how, path):
+    """A look at a number and a time, compared with the one that was kept."""
+    meta = below.on(lambda disk, at: met(disk, at, how), path)
+    if kind == "keep":
+        below.kept = meta
+        return "kept"
+    if kind == "when":
+        return f"{meta.time // SECOND} and {meta.time % SECOND}"
+    number_text = "same number" if meta.number == below.kept.number else "another number"
+    time_text = "same time" if meta.time == below.kept.time else "another time"
+    return {"same": f"{number_text}, {time_text}", "number": number_text,
+            "since": "not earlier" if below.kept.time <= meta.time else "earlier"}[kind]
+
+
 def call(below, words):
+    if words[0] in LOOKS:
+        return looked(below, words[0], words[1], below.at(names_of(words[2])))
     kind, path, third = words[0], names_of(word(words, 1)), word(words, 2)
     below.at(path)
     if kind in ("look", "link"):
@@ -141,6 +165,9 @@ def answer(machine, row):
         machine.folder(names_of(path))
     elif kind == "file":
         machine.file(names_of(path), text.encode())
+    elif kind == "date":
+        secs, nanos = text.split(" ")
+        machine.disk.tree[names_of(path)].time = number(secs) * SECOND + number(nanos)
     elif kind == "symlink":
         machine.linked.add(names_of(path))
     elif kind == "put":

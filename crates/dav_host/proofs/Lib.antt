@@ -1,2 +1,3 @@
 pub mod Listers
+pub mod PassedNames
 pub mod PathTexts

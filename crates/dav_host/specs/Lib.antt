@@ -1,3 +1,4 @@
+pub mod Entries
 pub mod Host
 pub mod Kinds
 pub mod Listings

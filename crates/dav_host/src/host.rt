@@ -1,7 +1,8 @@
-ghost use Rattle.std.specs.Prelude.{◌≡◌, ◌≢◌, ◌≤◌, None, Some, IfOk, IfSome, IfErr, refl, string_bytes, string_capacity};
+ghost use Rattle.std.specs.Prelude.{◌≡◌, ◌≢◌, ◌≤◌, None, Some, IsSome, IfOk, IfSome, IfErr, refl, string_bytes, string_capacity};
 ghost use Rattle.dav_io.specs.Counts.{Rose, one_more};
 ghost use Rattle.dav_host.specs.Host.{room, live_at, untold, never_told};
-ghost use Rattle.dav_host.specs.Listings.{listers_at};
+ghost use Rattle.dav_host.specs.Listings.{listers_at, BeginsAt, GoesAt};
+ghost use Rattle.dav_core.specs.Listing.{Lists, ListsOn};
 ghost use Rattle.dav_core.proofs.Untold.{untold_live};
 
 use crate::listings::{HostListing, listing_of, next_name};
@@ -18,6 +19,7 @@ use dav_core::{Disk, DiskError, FsPath, Handle, Lister, Meta, OpenOptions, free_
 use dav_io::{NoMemory, Text};
 use std::alloc::Global;
 use std::collections::BTreeMap;
+use std::fs::ReadDir;
 use std::os::unix::fs::OpenOptionsExt;
 use std::rt::Files;
 use std::{fs, io};
@@ -93,6 +95,24 @@ impl<R: Files + AllocGlobal + Clone + Drop> HostDisk<R> {
     {
         self.faults = self.faults.saturating_add(1);
         DiskError::Failed
+    }
+
+    // Counts a fault, unless memory was refused.
+    fn counted(&mut self, error: DiskError) -> DiskError
+        ensures same { result ≡ error }
+        ensures counts { self.old.faults ≤ self.new.faults }
+        ensures rose { error ≡ DiskError.Failed → Rose self.old.faults self.new.faults }
+        ensures asked { self.new.asked ≡ self.old.asked }
+        ensures opens { self.new.opens ≡ self.old.opens }
+        ensures listings { self.new.listings ≡ self.old.listings }
+    {
+        match error {
+            DiskError::NoMemory => DiskError::NoMemory,
+            other => {
+                let _ = self.fault();
+                other
+            }
+        }
     }
 }
 
@@ -190,7 +210,12 @@ impl<R: Files + AllocGlobal + Clone + Drop> Disk for HostDisk<R> {
         self.opens.remove(file.0);
     }
 
-    fn list(&mut self, path: &FsPath) -> Result<Lister, DiskError> {
+    /// A listing that is begun has missed no name.
+    fn list(&mut self, path: &FsPath) -> Result<Lister, DiskError>
+        ensures done { Lists (⟦<HostDisk<R> as Disk>⟧.state self.old) path.now result (⟦<HostDisk<R> as Disk>⟧.state self.new) }
+        ensures loan { ⟦<HostDisk<R> as Disk>⟧.loan self.new ≡ ⟦<HostDisk<R> as Disk>⟧.loan self.old }
+        ensures begins { BeginsAt self.old.listings result self.new.listings }
+    {
         self.asked = self.asked.saturating_add(1);
         let Some(lister) = free_key(&self.listings) else {
             return Err(DiskError::NoMemory);
@@ -211,12 +236,18 @@ impl<R: Files + AllocGlobal + Clone + Drop> Disk for HostDisk<R> {
         }
     }
 
-    fn list_next(&mut self, alloc: Global, at: Lister) -> Result<Option<Text>, DiskError> {
+    /// Names that can't be told are passed over and missed. The end of a listing that missed any is a fault, and no clean
+    /// end; it is told once. Names that can be told are told before.
+    fn list_next(&mut self, alloc: Global, at: Lister) -> Result<Option<Text>, DiskError>
+        requires { IsSome (listers_at self.old.listings at.0) }
+        ensures done { ListsOn (⟦<HostDisk<R> as Disk>⟧.state self.old) at.0 result (⟦<HostDisk<R> as Disk>⟧.state self.new) }
+        ensures loan { ⟦<HostDisk<R> as Disk>⟧.loan self.new ≡ ⟦<HostDisk<R> as Disk>⟧.loan self.old }
+        ensures goes { GoesAt ⟦<ReadDir<R, Global> as Iterator>⟧.next_gives at.0 self.old.listings result self.new.listings }
+    {
         self.asked = self.asked.saturating_add(1);
         match next_name(alloc, &mut self.listings, at.0) {
             Ok(found) => Ok(found),
-            Err(DiskError::NoMemory) => Err(DiskError::NoMemory),
-            Err(_) => Err(self.fault()),
+            Err(error) => Err(self.counted(error)),
         }
     }
 

@@ -1,7 +1,9 @@
 // The table of open listings.
-ghost use Rattle.std.specs.Prelude.{◌≡◌, ◌<◌, ◌^◌, None, Some, IsSome, IfOk, IfErr};
+ghost use Rattle.std.specs.Prelude.{◌≡◌, ◌<◌, ◌^◌, false, None, Some, IsSome, Ok, IfOk, IfErr};
+ghost use Rattle.std.specs.Iterator.{IsFinite};
 ghost use Rattle.dav_core.specs.Listing.{IsNamed, MayRefuseNext, ListersAfterNext};
-ghost use Rattle.dav_host.specs.Listings.{listers_at, IsFewer};
+ghost use Rattle.dav_host.specs.Entries.{Says, TellsName};
+ghost use Rattle.dav_host.specs.Listings.{listers_at, IsFewer, Goes, GoesAt};
 
 use dav_core::{DiskError, is_plain};
 use dav_io::Text;
@@ -27,7 +29,8 @@ pub struct HostListing<R: Files + Drop> {
 
 // What the machine's names are at first.
 pub fn listing_of<R: Files + Drop>(names: ReadDir<R, Global>) -> HostListing<R>
-    ensures { result.left < 2 ^ 60 }
+    ensures left { result.left < 2 ^ 60 }
+    ensures missed { result.missed ≡ false }
 {
     HostListing {
         names,
@@ -43,6 +46,7 @@ fn name_of<R: Files + Drop>(
 ) -> Result<Option<Text>, DiskError>
     ensures plain { IsNamed result }
     ensures only { IfErr result MayRefuseNext }
+    ensures says { Says entry result }
 {
     match entry {
         Ok(entry) => {
@@ -63,47 +67,64 @@ fn name_of<R: Files + Drop>(
     }
 }
 
-impl<R: Files + Clone + Drop> HostListing<R> {
-    // The next name that can be told. Where names were met that can't, one fault stands for them after all others.
-    fn told(&mut self, alloc: Global) -> Result<Option<Text>, DiskError>
-        ensures plain { IsNamed result }
-        ensures only { IfErr result MayRefuseNext }
-        ensures left { self.new.left ≡ self.old.left }
-    {
-        'names: for _ in 0..u32::MAX {
-            let Some(entry) = self.names.next() else {
-                let missed = self.missed;
-                self.missed = false;
-                return if missed {
-                    Err(DiskError::Failed)
-                } else {
-                    Ok(None)
-                };
+// The next name that can be told, of entries as they come. Where names were met that can't, one fault stands for them
+// after all others. It is for entries of any kind, so that its clause says what it does with each that it takes.
+fn next_told<R: Files + Drop, I: Iterator<Item = io::Result<DirEntry<R, Global>>>>(
+    alloc: Global,
+    names: &mut I,
+    missed: &mut bool,
+) -> Result<Option<Text>, DiskError>
+    requires { I.can_next names.old × IsFinite (I.remaining names.old) }
+    ensures plain { IsNamed result }
+    ensures only { IfErr result MayRefuseNext }
+    ensures told { TellsName I.next_gives names.old missed.old result names.new missed.new }
+{
+    'names: for _ in 0..u32::MAX {
+        let Some(entry) = names.next() else {
+            let has_missed = *missed;
+            *missed = false;
+            return if has_missed {
+                Err(DiskError::Failed)
+            } else {
+                Ok(None)
             };
-            match name_of(alloc, entry) {
-                Ok(Some(name)) => return Ok(Some(name)),
-                Ok(None) => self.missed = true,
-                Err(e) => return Err(e),
-            }
+        };
+        match name_of(alloc, entry) {
+            Ok(Some(name)) => return Ok(Some(name)),
+            Ok(None) => *missed = true,
+            Err(e) => return Err(e),
         }
-        Err(DiskError::Failed)
     }
+    Err(DiskError::Failed)
+}
 
+// How many names are to come behind what was found: one fewer behind a name.
+fn left_behind(left: u64, found: &Option<Text>) -> u64
+    requires { 0 < left }
+    ensures { IsFewer left (Ok found.now) result }
+{
+    match found {
+        Some(_) => left - 1,
+        None => left,
+    }
+}
+
+impl<R: Files + Clone + Drop> HostListing<R> {
     // The next name that can be told, and one fewer to come.
     fn next(&mut self, alloc: Global) -> Result<Option<Text>, DiskError>
         ensures plain { IsNamed result }
         ensures only { IfErr result MayRefuseNext }
         ensures left { IsFewer self.old.left result self.new.left }
+        ensures goes { Goes ⟦<ReadDir<R, Global> as Iterator>⟧.next_gives self.old result self.new }
     {
         if self.left == 0 {
             return Err(DiskError::Failed);
         }
-        match self.told(alloc) {
-            Ok(Some(name)) => {
-                self.left -= 1;
-                Ok(Some(name))
+        match next_told(alloc, &mut self.names, &mut self.missed) {
+            Ok(found) => {
+                self.left = left_behind(self.left, &found);
+                Ok(found)
             }
-            Ok(None) => Ok(None),
             Err(e) => Err(e),
         }
     }
@@ -119,6 +140,7 @@ pub fn next_name<R: Files + Clone + Drop>(
     ensures plain { IsNamed result }
     ensures only { IfErr result MayRefuseNext }
     ensures listers { ListersAfterNext lister result (listers_at listings.old) (listers_at listings.new) }
+    ensures goes { GoesAt ⟦<ReadDir<R, Global> as Iterator>⟧.next_gives lister listings.old result listings.new }
 {
     match listings.get_mut(&lister) {
         Some(listing) => listing.next(alloc),

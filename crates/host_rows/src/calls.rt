@@ -1,5 +1,6 @@
 //! Calls of a disk of the machine, one after the other.
 use crate::changes::{change, write};
+use crate::looks::{Kept, look};
 use anyhow::{Result, bail};
 use dav_core::{Disk, DiskError, FsPath, Kind, Meta, OpenOptions};
 use dav_host::HostDisk;
@@ -116,7 +117,14 @@ fn list<D: Disk>(alloc: Global, disk: &mut D, path: &FsPath, line: &mut String) 
 }
 
 // Makes the call of a part.
-fn call<D: Disk>(alloc: Global, disk: &mut D, part: &str, line: &mut String) -> Result<()> {
+fn call<D: Disk>(
+    rt: &HostRuntime,
+    disk: &mut D,
+    part: &str,
+    kept: &mut Kept,
+    line: &mut String,
+) -> Result<()> {
+    let alloc = rt.alloc();
     let mut words = part.split(' ');
     let kind = words.next().unwrap_or("");
     let path = path_of(alloc, words.next().unwrap_or(""))?;
@@ -131,6 +139,7 @@ fn call<D: Disk>(alloc: Global, disk: &mut D, part: &str, line: &mut String) -> 
             line.push_str("turned")?;
         }
         "write" => write(disk, &path, part, line)?,
+        "keep" | "same" | "number" | "since" | "when" => look(rt, disk, part, kept, line)?,
         _ => change(alloc, disk, part, line)?,
     }
     Ok(line.push_str(" | ")?)
@@ -141,8 +150,9 @@ pub fn calls(rt: &HostRuntime, root: &str, parts: &str) -> Result<String> {
     let alloc = rt.alloc();
     let mut disk = HostDisk::new(alloc, rt, root)?;
     let mut line = String::new(alloc);
+    let mut kept = Kept::none();
     for part in parts.split('|').skip(1) {
-        call(alloc, &mut disk, part.trim(), &mut line)?;
+        call(rt, &mut disk, part.trim(), &mut kept, &mut line)?;
     }
     write!(line, "failed {}", disk.faults())?;
     Ok(line)

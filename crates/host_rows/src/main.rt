@@ -8,6 +8,7 @@
 //!     take PATH               what two reads of a stream from a file give
 //!     put PATH TEXT           what a stream into a new file took of a text
 //!     stuck PATH TEXT         the same of a file that is opened for reading alone
+//!     date PATH SECS NANOS    sets the time of a file or a folder: seconds from 1970 on, and nanoseconds
 //!     alone PATH              whether what stands at a path is for its owner alone
 //!     clock                   whether the clock shows a moment behind the year 2020, and no earlier one afterwards
 //!     #                       is written as it stands
@@ -17,12 +18,18 @@
 //! tells the first two names of a folder; `turn`; and those that change what stands: `write PATH HOW PLACE TEXT`, which
 //! opens a file as letters say and writes a text (`r` and `w` read and write, `a` append, `t` truncate, `c` create, `n`
 //! create_new, `p` public, `-` none), `make PATH`, `share PATH`, which makes a public one, and `clear PATH` of folders,
-//! `remove PATH` of a file, `rename PATH PATH`, `copy PATH PATH`. What each answers stands before a `|`, and behind them
+//! `remove PATH` of a file, `rename PATH PATH`, `copy PATH PATH`.
+//!
+//! Looks at numbers and times are made as a first word says: `look` and `link` as above, `open` by an opening, `again` by
+//! an opening whose file is asked twice. `keep HOW PATH` keeps the number and the time; `same HOW PATH` tells whether both
+//! are those that were kept, `number HOW PATH` tells it of the number; `since HOW PATH` whether the time isn't earlier than
+//! the one that was kept, and not to come; `when HOW PATH` tells the time. What each call answers stands before a `|`, and behind them
 //! how many calls met a fault. A name `COUNT*NAME` is so many copies of a name.
 #![tactic(auto)]
 
 mod calls;
 mod changes;
+mod looks;
 mod streams;
 
 use anyhow::Result;
@@ -58,6 +65,10 @@ fn answer(rt: &HostRuntime, row: &str) -> Result<String> {
         "take" => streams::take(rt, path),
         "put" => streams::put(rt, path, text),
         "stuck" => streams::put_stuck(rt, path, text),
+        "date" => {
+            streams::date(rt, path, text)?;
+            said(alloc, "made")
+        }
         "alone" => {
             let is_alone = fs::metadata(rt, path)?.mode() & 0o077 == 0;
             said(alloc, if is_alone { "alone" } else { "open" })

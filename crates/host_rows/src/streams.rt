@@ -1,9 +1,10 @@
-//! Streams from and into files, and the clock.
+//! Streams from and into files, their times, and the clock.
 use crate::said;
-use anyhow::Result;
+use anyhow::{Result, bail};
 use dav_host::{StdSink, StdSource, SystemClock};
 use dav_io::{Clock, Failed, Moment, Sink, Source};
 use std::fs::File;
+use std::time::{Duration, UNIX_EPOCH};
 
 // The first moment of the year 2020, in nanoseconds since 1970.
 const YEAR_2020: u64 = 1_577_836_800_000_000_000;
@@ -66,4 +67,18 @@ pub fn clock(rt: &HostRuntime) -> Result<String> {
     let is_late = first > YEAR_2020;
     let goes_on = second >= first;
     Ok(format!(in rt.alloc(); "late {is_late}, goes on {goes_on}")?)
+}
+
+/// Sets the time of what stands at a path, by the words of a row.
+pub fn date(rt: &HostRuntime, path: &str, text: &str) -> Result<()> {
+    let (secs, nanos) = text.split_once(' ').unwrap_or((text, ""));
+    let secs = Duration::from_secs(secs.parse::<u64>().unwrap_or(0));
+    let nanos = Duration::from_nanos(nanos.parse::<u64>().unwrap_or(0));
+    let Some(time) = UNIX_EPOCH
+        .checked_add(secs)
+        .and_then(|time| time.checked_add(nanos))
+    else {
+        bail!("no time");
+    };
+    Ok(File::open(rt, path)?.set_modified(time)?)
 }
