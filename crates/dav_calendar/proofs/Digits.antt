@@ -1,31 +1,13 @@
 -- Decimal digits.
-use Rattle.std.proofs.Common.{◌≡◌, ◌<◌, ◌≤◌, ◌^◌, ◌&&◌, ◌+◌, ◌-◌, ℕ, zero, suc, List, [], ◌∷◌, length, drop, take, Err, IsUtf8, IsAscii, Bool, true, false, cond, refl, sym, subst, ap, arith}
+use Rattle.std.proofs.Common.{◌≡◌, ◌<◌, ◌≤◌, ◌^◌, ◌+◌, ◌-◌, ℕ, zero, suc, List, [], ◌∷◌, length, drop, take, Err, Bool, true, false, cond, refl, sym, subst, arith}
 use Rattle.std.specs.Char.{is_ascii_digit}
-use Rattle.std.specs.List.{list_all, prefix_len}
+use Rattle.std.specs.List.{prefix_len}
 use Rattle.std.specs.Str.{all_ascii_digits}
-use Rattle.std.specs.Str.Parse.{AllDigits, ParsesUnsigned, digits_value}
+use Rattle.std.specs.Str.Parse.{ParsesUnsigned, digits_value}
 use Rattle.std.proofs.lemmas.Bool.{and_from, and_parts}
 use Rattle.std.proofs.lemmas.List.{take_all, length-drop}
-use Rattle.std.proofs.lemmas.Str.{IsUtf8-from_ascii}
-use Rattle.std.proofs.lemmas.Str.Parse.{IsNumeralModel, numerals_by_value, tells_all_ascii_digits, digit_from_value, digits_value_short, parse_digits}
-
-pub all_are_digits : (ds : List ℕ) → list_all is_ascii_digit ds ≡ all_ascii_digits ds
-all_are_digits [] = refl
-all_are_digits (d ∷ ds) = ap (λ b. is_ascii_digit d && b) (all_are_digits ds)
-
-abbrev pub AreDigits : List ℕ → Type 0
-AreDigits ds = all_ascii_digits ds ≡ true
-
-pub own : IsNumeralModel AreDigits (digits_value 10)
-own = numerals_by_value _ tells_all_ascii_digits
-
-digits_ascii : (ds : List ℕ) → AllDigits 10 ds → IsAscii ds
-digits_ascii [] all i = omega arith
-digits_ascii (d ∷ ds) all zero = omega (arith, digit_from_value d all.0)
-digits_ascii (d ∷ ds) all (suc i) = digits_ascii ds all.1 i
-
-pub digits_text : (ds : List ℕ) → AreDigits ds → IsUtf8 ds
-digits_text ds all = IsUtf8-from_ascii ds (digits_ascii ds (own.to ds all))
+use Rattle.std.proofs.lemmas.Str.Parse.{digits_value_short, parse_digits}
+use Rattle.dav_io.proofs.Digits.{AreDigits, own}
 
 -- the number of so few digits fits
 pub fits : {E : Type 0} (k : ℕ) (ds : List ℕ) (e : E) → AreDigits ds → 0 < length ds → length ds ≤ 9 → 10 ^ 9 ≤ 2 ^ k → ParsesUnsigned k 10 ds (Err e) → ⊥

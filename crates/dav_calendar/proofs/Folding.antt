@@ -48,7 +48,7 @@ pub mark_boundary : (line : List ℕ) (i : ℕ) → position is_mark line ≡ So
 mark_boundary line i e = let p = position-Some is_mark line i 0 e in IsCharBoundary-before_ascii line i p.0 (mark_small (get_or line i 0) p.1)
 
 -- the lines that are left
-at_line : (lines : List (List ℕ)) (i : ℕ) (d : List ℕ) → i < length lines → drop i lines ≡ get_or lines i d ∷ drop (i + 1) lines
+pub at_line : (lines : List (List ℕ)) (i : ℕ) (d : List ℕ) → i < length lines → drop i lines ≡ get_or lines i d ∷ drop (i + 1) lines
 at_line lines i d h = rw (add-one, drop-cons lines i d) refl
 
 pub line_goes : (lines done : List (List ℕ)) (whole : List (List ℕ)) (i j : ℕ) (line next now : List ℕ) → i < length lines → next ≡ get_or lines i next → goes_on next ≡ true

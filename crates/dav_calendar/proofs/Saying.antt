@@ -5,7 +5,7 @@ use Rattle.std.specs.Str.{bytes_eq}
 use Rattle.dav_calendar.specs.Moments.{at_time, day, midnight, moment, time, value_in}
 use Rattle.dav_calendar.specs.Overlaps.{first_value}
 use Rattle.dav_calendar.specs.declared.property.Property.{Property}
-use Rattle.dav_calendar.proofs.Digits.{AreDigits}
+use Rattle.dav_io.proofs.Digits.{AreDigits}
 
 pub day_is : (text : List ℕ) → length text ≡ 8 → AreDigits text → day text ≡ midnight (value_in (take 4 text)) (value_in (take 2 (drop 4 text))) (value_in (drop 6 text))
 day_is text e all = rw (e, all) refl

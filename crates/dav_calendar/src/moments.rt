@@ -23,7 +23,7 @@ fn each_is_digit(text: &[u8]) -> bool
     text.iter().all(|b| b.is_ascii_digit())
 }
 
-#[tactic(auto, using(crate::proofs::Digits::all_are_digits))]
+#[tactic(auto, using(dav_io::proofs::Digits::all_are_digits))]
 fn are_digits(text: &[u8]) -> bool
     ensures { result ≡ all_ascii_digits text.now }
 {

@@ -3,7 +3,7 @@ use Rattle.std.proofs.Common.{◌≡◌, ◌≢◌, ◌==◌, ◌&&◌, ◌||◌
 use mathlib.Core.Path.{fun_ext}
 use Rattle.std.specs.List.{list_any, list_all, AllByRecursion}
 use Rattle.std.specs.Option.{is_none, option_map}
-use Rattle.std.proofs.lemmas.Bool.{and_parts}
+use Rattle.std.proofs.lemmas.Bool.{and_parts, and_from}
 use Rattle.std.proofs.lemmas.Bool.Decides.{nat_tests}
 use Rattle.std.proofs.lemmas.List.Elements.{All-from_recursion, recursion_from_All}
 use Rattle.dav_core.specs.declared.tree.Row.{Row}
@@ -24,21 +24,17 @@ use Rattle.dav_disk.specs.Rows.{is_new_number, can_add, can_be_set, with_file, l
 use Rattle.dav_disk.specs.Calls.{Known}
 use Rattle.dav_core.specs.Disk.{Live}
 
-pub both : (a b : Bool) → a ≡ true → b ≡ true → (a && b) ≡ true
-both true b p q = q
-both false b p q = cc
-
 cond_more : (b x y z : Bool) → (y ≡ true → z ≡ true) → cond b x y ≡ true → cond b x z ≡ true
 cond_more true x y z h e = e
 cond_more false x y z h e = h e
 
 all_more : (p : Row → Bool) (rows : List Row) (row : Row) → list_all p rows ≡ true → p row ≡ true → list_all p (rows ++ row ∷ []) ≡ true
-all_more p [] row e f = both (p row) true f refl
-all_more p (r ∷ rows) row e f = let t = and_parts (p r) (list_all p rows) e in both (p r) (list_all p (rows ++ row ∷ [])) t.0 (all_more p rows row t.1 f)
+all_more p [] row e f = and_from (p row) true f refl
+all_more p (r ∷ rows) row e f = let t = and_parts (p r) (list_all p rows) e in and_from (p r) (list_all p (rows ++ row ∷ [])) t.0 (all_more p rows row t.1 f)
 
 pub all_weaker : (p q : Row → Bool) (rows : List Row) → ((r : Row) → p r ≡ true → q r ≡ true) → list_all p rows ≡ true → list_all q rows ≡ true
 all_weaker p q [] h e = refl
-all_weaker p q (r ∷ rows) h e = let t = and_parts (p r) (list_all p rows) e in both (q r) (list_all q rows) (h r t.0) (all_weaker p q rows h t.1)
+all_weaker p q (r ∷ rows) h e = let t = and_parts (p r) (list_all p rows) e in and_from (q r) (list_all q rows) (h r t.0) (all_weaker p q rows h t.1)
 
 dir_chosen : (b : Bool) (r : Row) (o p : Option Row) → (is_dir_row o ≡ true → is_dir_row p ≡ true) → is_dir_row (cond b (Some r) o) ≡ true → is_dir_row (cond b (Some r) p) ≡ true
 dir_chosen true r o p h e = e
@@ -70,14 +66,14 @@ all_other : (rows : List Row) (path : Names) (number : ℕ) → is_none (row_at 
 all_other [] path number e f = refl
 all_other (r ∷ rows) path number e f =
     let t = other_step (same_names path r.path) (number == r.number) r (row_at rows path) (list_any (λ row. number == row.number) rows) e f in
-    both (is_other path number r) (list_all (is_other path number) rows) t.0 (all_other rows path number t.1.0 t.1.1)
+    and_from (is_other path number r) (list_all (is_other path number) rows) t.0 (all_other rows path number t.1.0 t.1.1)
 
 apart_more : (rows : List Row) (row : Row) → list_all (is_other row.path row.number) rows ≡ true → is_apart rows ≡ true → is_apart (rows ++ row ∷ []) ≡ true
 apart_more [] row e f = refl
 apart_more (r ∷ rows) row e f =
     let t = and_parts (is_other row.path row.number r) (list_all (is_other row.path row.number) rows) e in
     let u = and_parts (is_free rows r) (is_apart rows) f in
-    both (is_free (rows ++ row ∷ []) r) (is_apart (rows ++ row ∷ [])) (all_more (λ other. not (same_names other.path r.path) && not (other.number == r.number)) rows row u.0 t.0) (apart_more rows row t.1 u.1)
+    and_from (is_free (rows ++ row ∷ []) r) (is_apart (rows ++ row ∷ [])) (all_more (λ other. not (same_names other.path r.path) && not (other.number == r.number)) rows row u.0 t.0) (apart_more rows row t.1 u.1)
 
 pub tree_more : (rows : List Row) (row : Row) → is_tree rows ≡ true → is_free_in rows row.path ≡ true → not (list_any (λ r. row.number == r.number) rows) ≡ true
     → is_tree (rows ++ row ∷ []) ≡ true
@@ -86,8 +82,8 @@ tree_more rows row tree free new =
     let u = and_parts (list_all (is_placed rows) rows) (is_apart rows) t.1 in
     let f = and_parts (not (length row.path == 0)) (has_dir rows (parent_of row.path) && is_none (row_at rows row.path)) free in
     let g = and_parts (has_dir rows (parent_of row.path)) (is_none (row_at rows row.path)) f.1 in
-    both (has_dir (rows ++ row ∷ []) []) (list_all (is_placed (rows ++ row ∷ [])) (rows ++ row ∷ []) && is_apart (rows ++ row ∷ [])) (dir_more rows row [] t.0)
-    (both (list_all (is_placed (rows ++ row ∷ [])) (rows ++ row ∷ [])) (is_apart (rows ++ row ∷ []))
+    and_from (has_dir (rows ++ row ∷ []) []) (list_all (is_placed (rows ++ row ∷ [])) (rows ++ row ∷ []) && is_apart (rows ++ row ∷ [])) (dir_more rows row [] t.0)
+    (and_from (list_all (is_placed (rows ++ row ∷ [])) (rows ++ row ∷ [])) (is_apart (rows ++ row ∷ []))
     (all_more (is_placed (rows ++ row ∷ [])) rows row
     (all_weaker (is_placed rows) (is_placed (rows ++ row ∷ [])) rows (placed_more rows row) u.0)
     (placed_in (length row.path == 0) (is_dir row.kind) (has_dir (rows ++ row ∷ []) (parent_of row.path)) f.0 (dir_more rows row (parent_of row.path) g.0)))

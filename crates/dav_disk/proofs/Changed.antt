@@ -2,7 +2,7 @@
 use Rattle.std.proofs.Common.{◌≡◌, ◌≢◌, ◌≤◌, ◌==◌, ◌+◌, ◌&&◌, ◌||◌, ◌⊎◌, ◌∷◌, ◌++◌, [], ℕ, List, Bool, true, false, cond, not, length, map, take, nat_lt, Option, None, Some, Result, Ok, Err, inl, inr, refl, sym, ap, ◌∙◌, arith}
 use Rattle.std.specs.List.{list_any}
 use Rattle.std.specs.Option.{is_none, option_map}
-use Rattle.std.proofs.lemmas.Bool.{and_parts}
+use Rattle.std.proofs.lemmas.Bool.{and_parts, not-true, not_from_false}
 use Rattle.std.proofs.lemmas.Bool.Decides.{nat_tests}
 use Rattle.dav_io.specs.Counts.{greatest}
 use Rattle.dav_core.specs.declared.tree.Row.{Row}
@@ -18,7 +18,11 @@ use Rattle.dav_core.proofs.UnchangedLemmas.{put_same, put_other}
 use Rattle.dav_core.specs.Changes.{tick, timed_row, touched_at, touched, then_touched, is_free_in, added_at, added, stored_in, made_or, dir_added, file_added, cut_at_time, cut_kind, cut_found, without, removed_found}
 use Rattle.dav_disk.specs.Files.{IsStored}
 use Rattle.dav_disk.proofs.Added.{tree_more, dir_more}
-use Rattle.dav_disk.proofs.Trees.{In, parts_of, Maps, mapped_tree, filtered_tree, in_map, in_filter, filter_in, in_find, only_row, only_number, dir_stands, parent_row, same_yes, same_refl, differs, not_true, not_false, not_both, front_no, front_parent, no_front_parent, no_front_root, each_in}
+use Rattle.dav_disk.proofs.Trees.{Maps, mapped_tree, filtered_tree, only_row, only_number, dir_stands, parent_row, differs, not_both, front_no, front_parent, no_front_parent, no_front_root, each_in}
+use Rattle.dav_core.proofs.Paths.{names_same, names_equal}
+use Rattle.dav_core.proofs.Elements.{In, in_map, in_filter, filter_in}
+use Rattle.dav_core.proofs.Rows.{in_row_at, tree_parts}
+use Rattle.dav_core.proofs.ChangedRows.{set_kind, set_number, set_path}
 
 pub record Good (w : World) : Type 0 where
   pub tree : is_tree w.tree ≡ true
@@ -39,33 +43,25 @@ cond_good false x y h g = g refl
 
 -- where a directory stands, no file does
 pub dirs_only : (rows : List Row) (path : Names) (r : Row) → is_apart rows ≡ true → has_dir rows path ≡ true → In r rows → path ≡ r.path → is_dir r.kind ≡ true
-dirs_only rows path r apart dir i e = sym (ap is_dir_row (ap (row_at rows) e ∙ in_find rows r apart i)) ∙ dir
+dirs_only rows path r apart dir i e = sym (ap is_dir_row (ap (row_at rows) e ∙ in_row_at rows r apart i)) ∙ dir
 
 -- ---- times
 
-timed_kind : (b : Bool) (t : FileTime) (r : Row) → (cond b (record r { time = t }) r).kind ≡ r.kind
-timed_kind true t r = refl
-timed_kind false t r = refl
-
-timed_number : (b : Bool) (t : FileTime) (r : Row) → (cond b (record r { time = t }) r).number ≡ r.number
-timed_number true t r = refl
-timed_number false t r = refl
-
-timed_path : (b : Bool) (t : FileTime) (r : Row) → (cond b (record r { time = t }) r).path ≡ r.path
-timed_path true t r = refl
-timed_path false t r = refl
+-- rows of which some get a time keep their places
+pub set_maps : (rows : List Row) (set : Row → Bool) (t : FileTime) → is_tree rows ≡ true → Maps rows (λ r. cond (set r) (record r { time = t }) r)
+set_maps rows set t tree = record {
+  kind = λ r. set_kind (set r) t r;
+  number = λ r. set_number (set r) t r;
+  apart = λ r s i j e. sym (set_path (set r) t r) ∙ e ∙ set_path (set s) t s;
+  root = λ r e. set_path (set r) t r ∙ e;
+  top = λ r i e. sym (ap (λ (p : Names). length p == 0) (set_path (set r) t r)) ∙ e;
+  parent = λ r i some.
+      let d = parent_row rows r (tree_parts rows tree) i some in
+      (d.0, d.1, d.3, set_path (set d.0) t d.0 ∙ d.2 ∙ ap parent_of (sym (set_path (set r) t r)));
+}
 
 pub timed_maps : (rows : List Row) (path : Names) (t : FileTime) → is_tree rows ≡ true → Maps rows (timed_row path t)
-timed_maps rows path t tree = record {
-  kind = λ r. timed_kind (same_names path r.path) t r;
-  number = λ r. timed_number (same_names path r.path) t r;
-  apart = λ r s i j e. sym (timed_path (same_names path r.path) t r) ∙ e ∙ timed_path (same_names path s.path) t s;
-  root = λ r e. timed_path (same_names path r.path) t r ∙ e;
-  top = λ r i e. sym (ap (λ (p : Names). length p == 0) (timed_path (same_names path r.path) t r)) ∙ e;
-  parent = λ r i some.
-      let d = parent_row rows r (parts_of rows tree) i some in
-      (d.0, d.1, d.3, timed_path (same_names path d.0.path) t d.0 ∙ d.2 ∙ ap parent_of (sym (timed_path (same_names path r.path) t r)));
-}
+timed_maps rows path t tree = set_maps rows (λ r. same_names path r.path) t tree
 
 file_is_no_dir : (k : Kind) → k ≡ File → is_dir k ≡ true → ⊥
 file_is_no_dir Dir e f = cc
@@ -81,10 +77,10 @@ timed_good w path t g dir = record {
   tree = mapped_tree w.tree (timed_row path t) g.tree (timed_maps w.tree path t g.tree);
   stored = λ y i.
       (let (r, at, e) = in_map (timed_row path t) w.tree y i in
-      rw e (timed_stored w.files (same_names path r.path) t r (g.stored r at) (λ same. dirs_only w.tree path r (parts_of w.tree g.tree).apart dir at (same_yes path r.path same))));
+      rw e (timed_stored w.files (same_names path r.path) t r (g.stored r at) (λ same. dirs_only w.tree path r (tree_parts w.tree g.tree).apart dir at (names_same path r.path same))));
   numbers = λ y i.
       (let (r, at, e) = in_map (timed_row path t) w.tree y i in
-      rw (e, timed_number (same_names path r.path) t r) (g.numbers r at));
+      rw (e, set_number (same_names path r.path) t r) (g.numbers r at));
 }
 
 pub touched_good : (path : Names) (o : Option FileTime) (w : World) → Good w → has_dir w.tree path ≡ true → GoodIf (touched_at path o w)
@@ -198,16 +194,16 @@ cut_stored files false row r bytes t s same other file = ap (option_map (λ s. s
 cut_time_good : (w : World) (row : Row) (bytes : List ℕ) (t : FileTime) → Good w → In row w.tree
     → Good (record w { tree = map (timed_row row.path t) w.tree; files = put row.number (Some (record { bytes = bytes; time = t })) w.files; latest = t })
 cut_time_good w row bytes t g i =
-    let apart = (parts_of w.tree g.tree).apart in record {
+    let apart = (tree_parts w.tree g.tree).apart in record {
       tree = mapped_tree w.tree (timed_row row.path t) g.tree (timed_maps w.tree row.path t g.tree);
       stored = λ y j.
           (let (r, at, e) = in_map (timed_row row.path t) w.tree y j in
           rw e (cut_stored w.files (same_names row.path r.path) row r bytes t (g.stored r at)
-          (λ same. ap (λ (r : Row). r.number) (only_row w.tree r row apart at i (sym (same_yes row.path r.path same))))
+          (λ same. ap (λ (r : Row). r.number) (only_row w.tree r row apart at i (sym (names_same row.path r.path same))))
           (λ other n. differs row.path r.path other (ap (λ (r : Row). r.path) (sym (only_number w.tree r row apart at i n))))));
       numbers = λ y j.
           (let (r, at, e) = in_map (timed_row row.path t) w.tree y j in
-          rw (e, timed_number (same_names row.path r.path) t r) (g.numbers r at));
+          rw (e, set_number (same_names row.path r.path) t r) (g.numbers r at));
     }
 
 cut_at_good : (w : World) (row : Row) (len : ℕ) (o : Option FileTime) → Good w → In row w.tree → Good (cut_at_time row len o w)
@@ -234,12 +230,12 @@ cut_good w path len g = cut_found_good w (look w.tree path) len g (look_in w.tre
 
 not_below : (path : Names) (r d : Row) → not (is_front path r.path) ≡ true → d.path ≡ parent_of r.path → not (is_front path d.path) ≡ true
 not_below path r d keep e =
-    not_false (is_front path d.path) (front_no path d.path (λ f. not_both (is_front path r.path)
-    (same_refl path _ (front_parent path r.path (f ∙ ap (λ (p : Names). take (length path) p) e)))
-    (not_true (is_front path r.path) keep)))
+    not_from_false (is_front path d.path) (front_no path d.path (λ f. not_both (is_front path r.path)
+    (names_equal path _ (front_parent path r.path (f ∙ ap (λ (p : Names). take (length path) p) e)))
+    (not-true (is_front path r.path) keep)))
 
 root_stays : (path : Names) (r : Row) → (length path == 0) ≡ false → r.path ≡ [] → not (is_front path r.path) ≡ true
-root_stays path r some e = not_false (is_front path r.path) (front_no path r.path (λ f. no_front_root path some (f ∙ ap (λ (p : Names). take (length path) p) e)))
+root_stays path r some e = not_from_false (is_front path r.path) (front_no path r.path (λ f. no_front_root path some (f ∙ ap (λ (p : Names). take (length path) p) e)))
 
 pub without_tree : (rows : List Row) (path : Names) → is_tree rows ≡ true → (length path == 0) ≡ false → is_tree (without path rows) ≡ true
 without_tree rows path tree some = filtered_tree rows (λ row. not (is_front path row.path)) tree (λ r e. root_stays path r some e) (not_below path)
@@ -247,17 +243,17 @@ without_tree rows path tree some = filtered_tree rows (λ row. not (is_front pat
 pub without_good : (w : World) (path : Names) → Good w → (length path == 0) ≡ false → Good (record w { tree = without path w.tree })
 without_good w path g some = record {
   tree = without_tree w.tree path g.tree some;
-  stored = λ r i. g.stored r (in_filter (λ row. not (is_front path row.path)) w.tree r i).0;
-  numbers = λ r i. g.numbers r (in_filter (λ row. not (is_front path row.path)) w.tree r i).0;
+  stored = λ r i. g.stored r (in_filter (λ (row : Row). not (is_front path row.path)) w.tree r i).0;
+  numbers = λ r i. g.numbers r (in_filter (λ (row : Row). not (is_front path row.path)) w.tree r i).0;
 }
 
 parent_stays : (w : World) (row : Row) → Good w → In row w.tree → (length row.path == 0) ≡ false → has_dir (without row.path w.tree) (parent_of row.path) ≡ true
 parent_stays w row g i some =
-    let p = parts_of w.tree g.tree in
+    let p = tree_parts w.tree g.tree in
     let d = parent_row w.tree row p i some in
     let keep : Row → Bool = λ r. not (is_front row.path r.path) in
-    dir_stands (without row.path w.tree) d.0 (parent_of row.path) (parts_of (without row.path w.tree) (without_tree w.tree row.path g.tree some)).apart
-    (filter_in keep w.tree d.0 (not_false (is_front row.path d.0.path) (front_no row.path d.0.path (λ f. no_front_parent row.path some (f ∙ ap (λ (p : Names). take (length row.path) p) d.2)))) d.1)
+    dir_stands (without row.path w.tree) d.0 (parent_of row.path) (tree_parts (without row.path w.tree) (without_tree w.tree row.path g.tree some)).apart
+    (filter_in keep w.tree d.0 (not_from_false (is_front row.path d.0.path) (front_no row.path d.0.path (λ f. no_front_parent row.path some (f ∙ ap (λ (p : Names). take (length row.path) p) d.2)))) d.1)
     d.3 d.2
 
 removed_good : (w : World) (found : Result Row DiskError) → Good w → ((row : Row) → found ≡ Ok row → In row w.tree) → Good (removed_found found w)

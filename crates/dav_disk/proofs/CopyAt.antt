@@ -14,9 +14,9 @@ use Rattle.dav_disk.specs.Making.{copied_edit, copies, copies_from, copies_to, c
 use Rattle.dav_disk.specs.Files.{NamesNoDir}
 use Rattle.dav_disk.proofs.DirsStay.{row_no_dir}
 use Rattle.dav_disk.proofs.OpenAt.{placed_given}
-use Rattle.dav_disk.proofs.OpenDone.{place_row}
 use Rattle.dav_disk.proofs.Standing.{free_place}
-use Rattle.dav_disk.proofs.Trees.{find_in}
+use Rattle.dav_core.proofs.Rows.{row_at_in}
+use Rattle.dav_core.proofs.PlaceLemmas.{placed_row}
 
 -- what is allowed of a copy
 abbrev pub copied : World → Names → Result Copying DiskError → Allowed
@@ -98,4 +98,4 @@ copy_given w from to n m given e =
 pub copy_no_dir : (w : World) (from to : Names) (n m : ℕ) → is_tree w.tree ≡ true → copies w.tree from to ≡ Ok (Fills n m) → NamesNoDir w.tree m
 copy_no_dir w from to n m whole e =
     let (other, at, number, file) = fills_by (look w.tree from) to (place w.tree to) n m e in
-    rw (← number) (row_no_dir w.tree other whole (find_in w.tree to other (place_row w.tree to (Some other) at)).0 file)
+    rw (← number) (row_no_dir w.tree other whole (row_at_in w.tree to other (placed_row w.tree to (Some other) at)).0 file)

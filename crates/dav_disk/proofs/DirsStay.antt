@@ -29,9 +29,12 @@ use Rattle.dav_disk.specs.declared.tables.StoredFile.{StoredFile}
 use Rattle.dav_disk.specs.Files.{IsBare, AreBare, AreKept, NamesNoDir, AreStored, IsStored, live_of, stored_at, stored_of}
 use Rattle.dav_disk.specs.Making.{edited}
 use Rattle.dav_disk.proofs.Added.{not_equal, other_numbers}
-use Rattle.dav_disk.proofs.Trees.{In, in_map, in_filter, each_at, each_in, only_number, parts_of}
+use Rattle.dav_disk.proofs.Trees.{each_at, each_in, only_number}
 use Rattle.dav_disk.proofs.Changed.{Good, in_more, look_in}
-use Rattle.dav_disk.proofs.Moved.{changed_good}
+use Rattle.dav_disk.proofs.Moved.{changed_good, kind_same, number_same}
+use Rattle.dav_core.proofs.Elements.{In, in_map, in_filter}
+use Rattle.dav_core.proofs.Rows.{tree_parts}
+use Rattle.dav_core.proofs.ChangedRows.{set_kind, set_number}
 
 -- What stays: `old` are the files that were stored before.
 record Bare (old : ℕ → Option Stored) (w : World) : Type 0 where
@@ -65,25 +68,9 @@ mapped_bare old w f t kind number b = record {
   stay = b.stay;
 }
 
-timed_kind : (c : Bool) (t : FileTime) (r : Row) → (cond c (record r { time = t }) r).kind ≡ r.kind
-timed_kind true t r = refl
-timed_kind false t r = refl
-
-timed_same : (c : Bool) (t : FileTime) (r : Row) → (cond c (record r { time = t }) r).number ≡ r.number
-timed_same true t r = refl
-timed_same false t r = refl
-
-moved_kind : (c : Bool) (r : Row) (path : Names) → (cond c (record r { path = path }) r).kind ≡ r.kind
-moved_kind true r path = refl
-moved_kind false r path = refl
-
-moved_same : (c : Bool) (r : Row) (path : Names) → (cond c (record r { path = path }) r).number ≡ r.number
-moved_same true r path = refl
-moved_same false r path = refl
-
 touched_bare : (old : ℕ → Option Stored) (path : Names) (o : Option FileTime) (w : World) → Bare old w → BareIf old (touched_at path o w)
 touched_bare old path None w b = tt
-touched_bare old path (Some t) w b = mapped_bare old w (timed_row path t) t (λ r. timed_kind (same_names path r.path) t r) (λ r. timed_same (same_names path r.path) t r) b
+touched_bare old path (Some t) w b = mapped_bare old w (timed_row path t) t (λ r. set_kind (same_names path r.path) t r) (λ r. set_number (same_names path r.path) t r) b
 
 then_bare : (old : ℕ → Option Stored) (path : Names) (o : Option World) → BareIf old o → BareIf old (then_touched path o)
 then_bare old path None b = tt
@@ -91,13 +78,13 @@ then_bare old path (Some w) b = touched_bare old path (tick w.latest) w b
 
 without_bare : (old : ℕ → Option Stored) (path : Names) (w : World) → Bare old w → Bare old (record w { tree = without path w.tree })
 without_bare old path w b = record {
-  dirs = λ r i. b.dirs r (in_filter (λ row. not (is_front path row.path)) w.tree r i).0;
+  dirs = λ r i. b.dirs r (in_filter (λ (row : Row). not (is_front path row.path)) w.tree r i).0;
   above = b.above;
   stay = b.stay;
 }
 
 moved_bare : (old : ℕ → Option Stored) (from to : Names) (w : World) → Bare old w → Bare old (record w { tree = map (moved_row from to) w.tree })
-moved_bare old from to w b = mapped_bare old w (moved_row from to) w.latest (λ r. moved_kind (is_front from r.path) r _) (λ r. moved_same (is_front from r.path) r _) b
+moved_bare old from to w b = mapped_bare old w (moved_row from to) w.latest (λ r. kind_same (is_front from r.path) r _) (λ r. number_same (is_front from r.path) r _) b
 
 -- ---- rows and files more
 
@@ -158,7 +145,7 @@ cut_at_bare : (old : ℕ → Option Stored) (w : World) (row : Row) (len : ℕ) 
 cut_at_bare old w row len None g i file b = b
 cut_at_bare old w row len (Some t) g i file b =
     let s : Stored = record { bytes = resized len (bytes_of w row.number); time = t } in
-    mapped_bare old (record w { files = put row.number (Some s) w.files }) (timed_row row.path t) t (λ r. timed_kind (same_names row.path r.path) t r) (λ r. timed_same (same_names row.path r.path) t r) (record {
+    mapped_bare old (record w { files = put row.number (Some s) w.files }) (timed_row row.path t) t (λ r. set_kind (same_names row.path r.path) t r) (λ r. set_number (same_names row.path r.path) t r) (record {
       dirs = λ r at. bare_put w.files row.number s r (b.dirs r at) (λ dir e. other r at dir e);
       above = λ n f e. above_put (n == row.number) row.number n w.greatest s f (w.files n) refl (g.numbers row i) (b.above n f) e;
       stay = λ n e. stay_put (n == row.number) s (w.files n) (b.stay n e);
@@ -166,7 +153,7 @@ cut_at_bare old w row len (Some t) g i file b =
   where
     other : (r : Row) → In r w.tree → r.kind ≡ Dir → r.number ≡ row.number → ⊥
     other r at dir e =
-        let same = only_number w.tree r row (parts_of w.tree g.tree).apart at i e in
+        let same = only_number w.tree r row (tree_parts w.tree g.tree).apart at i e in
         let clash : Dir ≡ File = sym dir ∙ ap (λ (r : Row). r.kind) same ∙ file in cc
 
 cut_kind_bare : (old : ℕ → Option Stored) (w : World) (kind : Kind) (row : Row) (len : ℕ) → row.kind ≡ kind → Good w → In row w.tree → Bare old w → Bare old (cut_kind kind row len w)
@@ -263,7 +250,7 @@ stored_no_dir tree files number bare stored = All-weaker (IsBare files) (λ r. r
 pub row_no_dir : (tree : List Row) (row : Row) → is_tree tree ≡ true → In row tree → is_dir row.kind ≡ false → NamesNoDir tree row.number
 row_no_dir tree row whole i other =
     All-from_recursion (λ (r : Row). r.kind ≡ Dir → r.number ≢ row.number) tree (each_in (λ (r : Row). r.kind ≡ Dir → r.number ≢ row.number) tree (λ r at dir e.
-    let same = only_number tree r row (parts_of tree whole).apart at i e in
+    let same = only_number tree r row (tree_parts tree whole).apart at i e in
     let t : true ≡ false = sym (ap is_dir (sym (ap (λ (r : Row). r.kind) same) ∙ dir)) ∙ other in cc))
 
 bare_timed : (files : ℕ → Option Stored) (c : Bool) (t : FileTime) (r : Row) → IsBare files r → IsBare files (cond c (record r { time = t }) r)

@@ -1,5 +1,5 @@
 -- What a call does to what is known is what the trait of disks asks, with the counts beside it.
-use Rattle.std.proofs.Common.{◌≡◌, ◌≤◌, ℕ, Bool, ◌↔◌, true, false, IsTrue, IsErrOf, Some, Result, Ok, Err, inl, inr, refl, ap}
+use Rattle.std.proofs.Common.{◌≡◌, ◌≤◌, ℕ, Bool, ◌↔◌, true, false, IsTrue, IsErrOf, Result, Ok, Err, inl, inr, refl, ap}
 use Rattle.dav_io.specs.Counts.{one_more}
 use Rattle.dav_core.specs.declared.tree.Row.{Row}
 use Rattle.dav_core.specs.declared.handle.Meta.{Meta}
@@ -13,6 +13,7 @@ use Rattle.dav_core.specs.Disk.{IsCounted, Refused, MetasBy, MayRefuseMeta, Clos
 use Rattle.dav_core.proofs.HeldStays.{same_held}
 use Rattle.dav_core.proofs.RefusedLemmas.{refused_of}
 use Rattle.dav_disk.specs.Calls.{Known, state_of, lengths, FindsMeta, RefusesBy, with_closed}
+use Rattle.std.proofs.lemmas.Option.{same_Some}
 
 -- what a counted call makes of the counts, and of whether reads are whole
 pub record Counted (faults asked : ℕ) (whole : Bool) (met more : ℕ) (still : Bool) : Type 0 where
@@ -35,9 +36,6 @@ may_meta : (e : DiskError) → IsTreeRefusal e → MayRefuseMeta e
 may_meta e (inl h) = rw h tt
 may_meta e (inr h) = rw h tt
 
-same_world : (v w : World) → Some v ≡ Some w → v ≡ w
-same_world v w e = cc
-
 pub meta_done : (follows : Bool) (k : Known) (f a : ℕ) (x : Bool) (g b : ℕ) (y : Bool) (path : Names) (result : Result Meta DiskError) → Counted f a x g b y → FindsMeta k.world path result
     → MetasBy follows (state_of k f a x) path result (state_of k g b y)
 meta_done follows k f a x g b y path (Ok meta) c found = record {
@@ -45,14 +43,14 @@ meta_done follows k f a x g b y path (Ok meta) c found = record {
   only = tt;
   world = refl;
   live = refl;
-  told = λ w e linked. (let same = same_world k.world w e in rw (← same) found);
+  told = λ w e linked. (let same = same_Some k.world w e in rw (← same) found);
 }
 meta_done follows k f a x g b y path (Err e) c found = record {
   asks = record { counted = counted_err e k k f a x g b y (no_fault e (look_err k.world.tree path e found)) c; listers = refl };
   only = may_meta e (look_err k.world.tree path e found);
   world = refl;
   live = refl;
-  told = λ w h linked. (let same = same_world k.world w h in rw (← same) (refused_of e (look k.world.tree path) found));
+  told = λ w h linked. (let same = same_Some k.world w h in rw (← same) (refused_of e (look k.world.tree path) found));
 }
 
 pub refused_by : (e : DiskError) (found : Result Row DiskError) → RefusesBy e found → Refused e found

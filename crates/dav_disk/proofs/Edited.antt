@@ -1,5 +1,5 @@
 -- What a disk in memory makes of its world is an edit of it.
-use Rattle.std.proofs.Common.{◌≡◌, ◌≢◌, ◌≤◌, ◌<◌, ◌==◌, ◌+◌, ◌-◌, ◌⊎◌, ◌∷◌, ◌++◌, ◌&&◌, ◌||◌, ◌<ℤ◌, ◌+ℤ◌, ℤ, pos, [], ℕ, List, Bool, true, false, cond, map, nat_lt, int_lt, Option, None, Some, inl, inr, subst, refl, sym, ap, ◌∙◌, arith}
+use Rattle.std.proofs.Common.{◌≡◌, ◌≢◌, ◌≤◌, ◌<◌, ◌==◌, ◌+◌, ◌-◌, ◌⊎◌, ◌∷◌, ◌++◌, ◌<ℤ◌, ◌+ℤ◌, ℤ, pos, [], ℕ, List, Bool, true, false, cond, map, nat_lt, int_lt, Option, None, Some, inl, inr, subst, refl, sym, ap, ◌∙◌, arith}
 use Rattle.std.proofs.lemmas.Bool.Decides.{nat_tests, Decides-int_eq}
 use Rattle.std.proofs.lemmas.Slice.Eq.{bytes_eq-Decides}
 use Rattle.std.proofs.lemmas.Int.{ints}
@@ -17,27 +17,18 @@ use Rattle.dav_core.specs.Changes.{tick, timed_row, touched_at, touched, then_to
 use Rattle.dav_core.specs.Edits.{Edit, makes, fills, takes, moves, Edited, EditedBy, IsNew, Becomes, SameOpens, is_later, made, taken, moved, filled, touched_to}
 use Rattle.dav_core.proofs.UnchangedLemmas.{same_besides, equal_keys}
 use Rattle.dav_disk.specs.Making.{edited, edited_by, filled_at}
-use Rattle.dav_disk.proofs.Trees.{same_yes, not_both}
+use Rattle.dav_disk.proofs.Trees.{not_both}
 use Rattle.dav_core.proofs.TimesLemmas.{not_after_itself, not_after_then}
 use Rattle.dav_disk.proofs.GivenStay.{IsTick, ticked}
+use Rattle.dav_core.proofs.Paths.{names_same}
+use Rattle.std.proofs.lemmas.Bool.{and_from, or_left, or_right}
+use Rattle.std.proofs.lemmas.Option.{same_Some}
 
 -- ---- times
 
 -- a time stands after another
 abbrev Later : FileTime → FileTime → Type 0
 Later t u = (t.secs <ℤ u.secs) ⊎ ((t.secs ≡ u.secs) × (t.nanos < u.nanos))
-
-or_left : (a b : Bool) → a ≡ true → (a || b) ≡ true
-or_left true b e = refl
-or_left false b e = cc
-
-or_right : (a b : Bool) → b ≡ true → (a || b) ≡ true
-or_right true b e = refl
-or_right false b e = e
-
-both : (a b : Bool) → a ≡ true → b ≡ true → (a && b) ≡ true
-both true b p q = q
-both false b p q = cc
 
 secs_less : (x y : ℤ) → x <ℤ y → int_lt x y ≡ true
 secs_less x y lt = grind (arith, ints)
@@ -48,7 +39,7 @@ nanos_less x y lt = grind (arith, nat_tests)
 later_test : (t u : FileTime) → Later t u → is_later u t ≡ true
 later_test t u (inl lt) = or_left (int_lt t.secs u.secs) _ (secs_less t.secs u.secs lt)
 later_test t u (inr same) = or_right (int_lt t.secs u.secs) _
-    (both (int_eq u.secs t.secs) (nat_lt t.nanos u.nanos) ((Decides-int_eq u.secs t.secs).1 (sym same.0)) (nanos_less t.nanos u.nanos same.1))
+    (and_from (int_eq u.secs t.secs) (nat_lt t.nanos u.nanos) ((Decides-int_eq u.secs t.secs).1 (sym same.0)) (nanos_less t.nanos u.nanos same.1))
 
 later_then : (a b c : FileTime) → Later a b → Later b c → Later a c
 later_then a b c (inl p) (inl q) = inl (omega (arith, ints))
@@ -110,15 +101,12 @@ becomes v m w tree files opens script more later = record {
 abbrev timed : Names → FileTime → World → World
 timed path t w = record (touched_to path t w) { latest = t }
 
-some_is : {A : Type 0} (a b : A) → Some a ≡ Some b → a ≡ b
-some_is a b e = cc
-
 takes_by : (path : Names) (w v : World) (o : Option FileTime) → w.latest.nanos < 1000000000 → tick w.latest ≡ o → touched_at (parent_of path) o (taken path w) ≡ Some v
     → Edited (takes path) w v
 takes_by path w v None small t e = cc
 takes_by path w v (Some u) small t e =
     let after = after_tick w.latest u small t in
-    rw (← some_is _ _ e) (
+    rw (← same_Some _ _ e) (
       u,
       new_by w u (timed (parent_of path) u (taken path w)) after (not_after_itself u),
       becomes w (touched_to (parent_of path) u (taken path w)) (timed (parent_of path) u (taken path w)) refl (λ number. refl) refl refl (omega arith) after.tick.later,
@@ -142,7 +130,7 @@ once_by from to w v (Some u) one small t e =
     let new = new_by w u (timed (parent_of from) u (moved from to w)) after (not_after_itself u) in
     let tree : map (timed_row (parent_of from) u) (moved from to w).tree ≡ map (timed_row (parent_of to) u) (map (timed_row (parent_of from) u) (moved from to w).tree) =
     sym (timed_twice (parent_of from) u (moved from to w).tree) ∙ ap (λ p. map (timed_row p u) (map (timed_row (parent_of from) u) (moved from to w).tree)) one in
-    rw (← some_is _ _ e) (
+    rw (← same_Some _ _ e) (
       u,
       u,
       new,
@@ -157,7 +145,7 @@ twice_then from to w v t (Some u) small after f e =
     let next = after_tick t u after.tick.nanos f in
     let all = after_then w.latest t u after next in
     let m : World = timed (parent_of to) u (timed (parent_of from) t (moved from to w)) in
-    rw (← some_is _ _ e) (
+    rw (← same_Some _ _ e) (
       t,
       u,
       new_by w t m after next.tick.later,
@@ -172,7 +160,7 @@ twice_by from to w v (Some u) small t e = twice_then from to w v u (tick u) smal
 
 moves_by : (b : Bool) (from to : Names) (w v : World) → w.latest.nanos < 1000000000 → same_names (parent_of from) (parent_of to) ≡ b
     → cond b (touched (parent_of from) (moved from to w)) (then_touched (parent_of to) (touched (parent_of from) (moved from to w))) ≡ Some v → Edited (moves from to) w v
-moves_by true from to w v small one e = once_by from to w v (tick w.latest) (same_yes (parent_of from) (parent_of to) one) small refl e
+moves_by true from to w v small one e = once_by from to w v (tick w.latest) (names_same (parent_of from) (parent_of to) one) small refl e
 moves_by false from to w v small one e = twice_by from to w v (tick w.latest) small refl e
 
 -- ---- what is made
@@ -192,7 +180,7 @@ made_then path kind bytes w v t files (Some u) stored after f e =
     let next = after_tick t u after.tick.nanos f in
     let all = after_then w.latest t u after next in
     let m : World = timed (parent_of path) u (with_made w path kind t files) in
-    rw (← some_is _ _ e) (
+    rw (← same_Some _ _ e) (
       w.greatest + 1,
       t,
       u,
@@ -240,11 +228,11 @@ filled_by number bytes w v None other small t e = cc
 filled_by number bytes w v (Some u) other small t e =
     let after = after_tick w.latest u small t in
     let m : World = record (filled number bytes u w) { latest = u } in
-    rw (← some_is _ _ e) (inr (other, u, new_by w u m after (not_after_itself u), becomes w (filled number bytes u w) m refl (λ number. refl) refl refl (omega arith) after.tick.later))
+    rw (← same_Some _ _ e) (inr (other, u, new_by w u m after (not_after_itself u), becomes w (filled number bytes u w) m refl (λ number. refl) refl refl (omega arith) after.tick.later))
 
 fills_by : (b : Bool) (number : ℕ) (bytes : List ℕ) (w v : World) → bytes_eq bytes (bytes_of w number) ≡ b → w.latest.nanos < 1000000000
     → cond b (Some w) (filled_at number bytes (tick w.latest) w) ≡ Some v → Edited (fills number bytes) w v
-fills_by true number bytes w v test small e = rw (← some_is _ _ e) (inl ((bytes_eq-Decides bytes (bytes_of w number)).0 test, same_besides w))
+fills_by true number bytes w v test small e = rw (← same_Some _ _ e) (inl ((bytes_eq-Decides bytes (bytes_of w number)).0 test, same_besides w))
 fills_by false number bytes w v test small e =
     filled_by number bytes w v (tick w.latest) (λ same. not_both _ ((bytes_eq-Decides bytes (bytes_of w number)).1 same) test) small refl e
 
@@ -259,7 +247,7 @@ edited_is (takes path) w v given e = takes_by path w v (tick w.latest) given.nan
 edited_is (moves from to) w v given e = moves_by (same_names (parent_of from) (parent_of to)) from to w v given.nanos refl e
 
 pub edited_by_is : (edit : Option Edit) (w v : World) → AreGiven w.tree w.files w.opens w.greatest w.latest → edited_by edit w ≡ Some v → EditedBy edit w v
-edited_by_is None w v given e = rw (← some_is _ _ e) (same_besides w)
+edited_by_is None w v given e = rw (← same_Some _ _ e) (same_besides w)
 edited_by_is (Some edit) w v given e = edited_is edit w v given e
 
 -- ---- what stays open

@@ -1,68 +1,35 @@
 -- A file whose bytes change keeps what holds of a disk's world.
-use Rattle.std.proofs.Common.{◌≡◌, ◌≢◌, ◌≤◌, ◌==◌, ℕ, List, Bool, true, false, cond, length, map, Option, Some, subst, refl, sym, ap, ◌∙◌, arith}
+use Rattle.std.proofs.Common.{◌≡◌, ◌≢◌, ◌≤◌, ◌==◌, ℕ, List, Bool, true, false, cond, map, Option, Some, subst, refl, sym, ap, ◌∙◌, arith}
 use Rattle.std.specs.Option.{option_map}
-use Rattle.std.proofs.lemmas.Bool.Decides.{nat_tests}
 use Rattle.std.proofs.lemmas.List.Elements.{All-map, All-weaker}
 use Rattle.dav_core.specs.declared.tree.Row.{Row}
 use Rattle.dav_core.specs.declared.time.FileTime.{FileTime}
-use Rattle.dav_core.specs.Path.{Names, parent_of}
 use Rattle.dav_core.specs.Tree.{is_tree}
-use Rattle.dav_core.specs.World.{World, Stored, AreGiven, IsGiven, IsPlain, ArePlain, put}
+use Rattle.dav_core.specs.World.{World, Stored, AreGiven, IsPlain, ArePlain, put}
 use Rattle.dav_core.specs.Changes.{tick}
 use Rattle.dav_core.specs.Edits.{timed_number}
 use Rattle.dav_core.proofs.UnchangedLemmas.{put_same, put_other, equal_keys, other_keys}
 use Rattle.dav_disk.specs.Files.{IsStored, AreStored}
-use Rattle.dav_disk.proofs.Trees.{parts_of, Maps, mapped_tree, in_map, parent_row}
-use Rattle.dav_disk.proofs.Changed.{Good}
+use Rattle.dav_disk.proofs.Trees.{Maps, mapped_tree}
+use Rattle.dav_disk.proofs.Changed.{Good, set_maps}
 use Rattle.dav_core.proofs.TimesLemmas.{not_after_itself}
-use Rattle.dav_disk.proofs.GivenStay.{IsTick, ticked, given_still, Bounded, bounded_of, given_of, put_given}
+use Rattle.dav_disk.proofs.GivenStay.{IsTick, ticked, given_still, Bounded, bounded_of, given_of, put_given, timed_given}
 use Rattle.dav_disk.proofs.Turned.{kept_of, good_of}
 use Rattle.dav_disk.specs.Making.{filled_now}
-
--- the row has the number, or another
-timed_yes : (b : Bool) (t : FileTime) (r : Row) → b ≡ true → record r { time = t } ≡ cond b (record r { time = t }) r
-timed_yes true t r e = refl
-timed_yes false t r e = cc
-
-timed_no : (b : Bool) (t : FileTime) (r : Row) → b ≡ false → r ≡ cond b (record r { time = t }) r
-timed_no true t r e = cc
-timed_no false t r e = refl
-
-is_equal : (m n : ℕ) → m ≡ n → (m == n) ≡ true
-is_equal m n e = grind (arith, nat_tests)
-
-not_equal : (m n : ℕ) → m ≢ n → (m == n) ≡ false
-not_equal m n e = grind (arith, nat_tests)
+use Rattle.dav_core.proofs.Elements.{in_map}
+use Rattle.dav_disk.proofs.Times.{time_set, time_left}
+use Rattle.dav_disk.proofs.PlainRows.{timed_plain}
+use Rattle.std.proofs.lemmas.Bool.{eq-eqb, ne_eqb}
+use Rattle.dav_core.proofs.ChangedRows.{set_number}
 
 pub row_timed : (number : ℕ) (t : FileTime) (r : Row) → r.number ≡ number → record r { time = t } ≡ timed_number number t r
-row_timed number t r e = timed_yes (r.number == number) t r (is_equal r.number number e)
+row_timed number t r e = time_set (r.number == number) t r (eq-eqb r.number number e)
 
 pub row_left : (number : ℕ) (t : FileTime) (r : Row) → r.number ≢ number → r ≡ timed_number number t r
-row_left number t r e = timed_no (r.number == number) t r (not_equal r.number number e)
-
-kind_same : (b : Bool) (t : FileTime) (r : Row) → (cond b (record r { time = t }) r).kind ≡ r.kind
-kind_same true t r = refl
-kind_same false t r = refl
-
-number_same : (b : Bool) (t : FileTime) (r : Row) → (cond b (record r { time = t }) r).number ≡ r.number
-number_same true t r = refl
-number_same false t r = refl
-
-path_same : (b : Bool) (t : FileTime) (r : Row) → (cond b (record r { time = t }) r).path ≡ r.path
-path_same true t r = refl
-path_same false t r = refl
+row_left number t r e = sym (time_left (r.number == number) t r (ne_eqb r.number number e))
 
 timed_maps : (rows : List Row) (n : ℕ) (t : FileTime) → is_tree rows ≡ true → Maps rows (timed_number n t)
-timed_maps rows n t tree = record {
-  kind = λ r. kind_same (r.number == n) t r;
-  number = λ r. number_same (r.number == n) t r;
-  apart = λ r s i j e. sym (path_same (r.number == n) t r) ∙ e ∙ path_same (s.number == n) t s;
-  root = λ r e. path_same (r.number == n) t r ∙ e;
-  top = λ r i e. sym (ap (λ (p : Names). length p == 0) (path_same (r.number == n) t r)) ∙ e;
-  parent = λ r i some.
-      let d = parent_row rows r (parts_of rows tree) i some in
-      (d.0, d.1, d.3, path_same (d.0.number == n) t d.0 ∙ d.2 ∙ ap parent_of (sym (path_same (r.number == n) t r)));
-}
+timed_maps rows n t tree = set_maps rows (λ r. r.number == n) t tree
 
 filled_stored : (files : ℕ → Option Stored) (b : Bool) (number : ℕ) (r : Row) (bytes : List ℕ) (t : FileTime) → (r.number == number) ≡ b → IsStored files r
     → IsStored (put number (Some (record { bytes = bytes; time = t })) files) (cond b (record r { time = t }) r)
@@ -80,13 +47,8 @@ filled_good w number bytes t g = record {
       rw e (filled_stored w.files (r.number == number) number r bytes t refl (g.stored r at)));
   numbers = λ y i.
       (let (r, at, e) = in_map (timed_number number t) w.tree y i in
-      rw (e, number_same (r.number == number) t r) (g.numbers r at));
+      rw (e, set_number (r.number == number) t r) (g.numbers r at));
 }
-
-timed_given : (b : Bool) (g : ℕ) (l t : FileTime) (r : Row) → IsTick l t → IsGiven g l r.number r.time
-    → IsGiven g t (cond b (record r { time = t }) r).number (cond b (record r { time = t }) r).time
-timed_given true g l t r tick given = record { within = given.within; nanos = tick.nanos; past = not_after_itself t }
-timed_given false g l t r tick given = given_still g g l t r.number r.time (omega arith) tick.later given
 
 filled_bounded : (w : World) (number : ℕ) (bytes : List ℕ) (t : FileTime) → Bounded w → IsTick w.latest t → number ≤ w.greatest → Bounded (filled_now number bytes t w)
 filled_bounded w number bytes t g tick le = record {
@@ -98,10 +60,6 @@ filled_bounded w number bytes t g tick le = record {
   opens = g.opens;
   nanos = tick.nanos;
 }
-
-timed_plain : (b : Bool) (t : FileTime) (r : Row) → IsPlain r → IsPlain (cond b (record r { time = t }) r)
-timed_plain true t r plain = plain
-timed_plain false t r plain = plain
 
 pub plain_numbered : (number : ℕ) (t : FileTime) (rows : List Row) → ArePlain rows → ArePlain (map (timed_number number t) rows)
 plain_numbered number t rows all =

@@ -1,7 +1,7 @@
 -- No change leaves a number above the greatest, or a time after the latest.
 use Rattle.std.proofs.Common.{◌≡◌, ◌≤◌, ◌<◌, ◌==◌, ◌+◌, ◌-◌, ◌⊎◌, ◌∷◌, ◌++◌, ◌&&◌, ◌||◌, ◌<ℤ◌, ◌≤ℤ◌, ◌+ℤ◌, ℤ, pos, max, [], ℕ, List, Bool, true, false, cond, not, length, map, nat_lt, int_lt, Option, None, Some, Result, Ok, Err, OnOk, OnErr, subst, inl, inr, refl, sym, ap, arith}
-use Rattle.std.proofs.lemmas.Bool.{and_parts}
-use Rattle.std.proofs.lemmas.Bool.Decides.{nat_tests, Decides-int_eq}
+use Rattle.std.proofs.lemmas.Bool.{and_parts, ltb-true, ltb-false}
+use Rattle.std.proofs.lemmas.Bool.Decides.{Decides-int_eq}
 use Rattle.std.specs.Option.{option_map}
 use Rattle.std.specs.Ordering.{int_eq}
 use Rattle.std.proofs.lemmas.Int.{ints}
@@ -28,8 +28,9 @@ use Rattle.dav_core.proofs.TablesLemmas.{updates_put}
 use Rattle.dav_disk.specs.declared.tables.StoredFile.{StoredFile}
 use Rattle.dav_disk.specs.Files.{AreStored, open_of, open_at, stored_of, stored_at}
 use Rattle.dav_disk.specs.Rows.{can_be_set, later_of, second_past}
-use Rattle.dav_disk.proofs.Trees.{In, in_map, in_filter, each_at, each_in}
+use Rattle.dav_disk.proofs.Trees.{each_at, each_in}
 use Rattle.dav_disk.proofs.Changed.{in_more, look_in}
+use Rattle.dav_core.proofs.Elements.{In, in_map, in_filter}
 
 -- ---- times
 
@@ -44,9 +45,6 @@ in_second a b e le = (omega (arith, ints), λ f. le)
 pub record IsTick (t u : FileTime) : Type 0 where
   pub later : NotAfter t u
   pub nanos : u.nanos < 1000000000
-
-tests : (a b : ℕ) → nat_lt a b ≡ true → a < b
-tests a b e = grind (arith, nat_tests)
 
 later_second : (t u : FileTime) → t.nanos < 1000000000 → record { secs = t.secs +ℤ pos 1; nanos = (t.nanos + 1000) - 1000000000 } ≡ u → IsTick t u
 later_second t u small e =
@@ -63,7 +61,7 @@ same_second t u small e =
 tick_by : (b c : Bool) (t u : FileTime) → nat_lt (t.nanos + 1000) 1000000000 ≡ b → t.nanos < 1000000000
     → cond b (Some (record { secs = t.secs; nanos = t.nanos + 1000 })) (cond c (Some (record { secs = t.secs +ℤ pos 1; nanos = (t.nanos + 1000) - 1000000000 })) None) ≡ Some u
     → IsTick t u
-tick_by true c t u test small e = same_second t u (tests _ _ test) cc
+tick_by true c t u test small e = same_second t u (ltb-true _ _ test) cc
 tick_by false true t u test small e = later_second t u small cc
 tick_by false false t u test small e = cc
 
@@ -99,7 +97,7 @@ cond_bounded false x y h g = g
 
 -- ---- times of rows
 
-timed_given : (b : Bool) (g : ℕ) (l t : FileTime) (r : Row) → IsTick l t → IsGiven g l r.number r.time
+pub timed_given : (b : Bool) (g : ℕ) (l t : FileTime) (r : Row) → IsTick l t → IsGiven g l r.number r.time
     → IsGiven g t (cond b (record r { time = t }) r).number (cond b (record r { time = t }) r).time
 timed_given true g l t r tick given = record { within = given.within; nanos = tick.nanos; past = not_after_itself t }
 timed_given false g l t r tick given = given_still g g l t r.number r.time (omega arith) tick.later given
@@ -197,7 +195,7 @@ cut_found_bounded (Err e) len w g h = g
 
 without_bounded : (path : Names) (w : World) → Bounded w → Bounded (record w { tree = without path w.tree })
 without_bounded path w g = record {
-  rows = λ r i. g.rows r (in_filter (λ row. not (is_front path row.path)) w.tree r i).0;
+  rows = λ r i. g.rows r (in_filter (λ (row : Row). not (is_front path row.path)) w.tree r i).0;
   files = g.files;
   opens = g.opens;
   nanos = g.nanos;
@@ -316,13 +314,10 @@ other_secs x y e same = let yes : int_eq x y ≡ true = (Decides-int_eq x y).1 s
 strictly : (x y : ℤ) → y ≤ℤ x → (x ≡ y → ⊥) → y <ℤ x
 strictly x y le ne = omega (arith, ints)
 
-not_below : (x y : ℕ) → nat_lt x y ≡ false → y ≤ x
-not_below x y e = grind (arith, nat_tests)
-
 later_by : (x y z : Bool) (a b : FileTime) → int_lt a.secs b.secs ≡ x → int_eq a.secs b.secs ≡ y → nat_lt a.nanos b.nanos ≡ z → IsLater a b (cond (x || (y && z)) b a)
 later_by true y z a b p q r = record { first = before_second a b (less a.secs b.secs p); second = not_after_itself b }
-later_by false true true a b p q r = record { first = in_second a b (equal_secs a.secs b.secs q) (let lt = tests a.nanos b.nanos r in omega arith); second = not_after_itself b }
-later_by false true false a b p q r = record { first = not_after_itself a; second = in_second b a (sym (equal_secs a.secs b.secs q)) (not_below a.nanos b.nanos r) }
+later_by false true true a b p q r = record { first = in_second a b (equal_secs a.secs b.secs q) (let lt = ltb-true a.nanos b.nanos r in omega arith); second = not_after_itself b }
+later_by false true false a b p q r = record { first = not_after_itself a; second = in_second b a (sym (equal_secs a.secs b.secs q)) (ltb-false a.nanos b.nanos r) }
 later_by false false z a b p q r = record { first = not_after_itself a; second = before_second b a (strictly a.secs b.secs (not_less a.secs b.secs p) (other_secs a.secs b.secs q)) }
 
 pub later_is : (a b : FileTime) → IsLater a b (later_of a b)
@@ -339,7 +334,7 @@ later_nanos true x y p q = p
 later_nanos false x y p q = q
 
 set_nanos : (t : FileTime) → can_be_set t ≡ true → t.nanos < 1000000000
-set_nanos t can = tests t.nanos 1000000000 (and_parts (int_lt t.secs (pos 253402300800)) (nat_lt t.nanos 1000000000) can).1
+set_nanos t can = ltb-true t.nanos 1000000000 (and_parts (int_lt t.secs (pos 253402300800)) (nat_lt t.nanos 1000000000) can).1
 
 row_set : (w : World) (x y : Row) (l : FileTime) → Bounded w → IsLater w.latest x.time l → x.time.nanos < 1000000000 → In y w.tree ⊎ (y ≡ x) → IsGiven (max w.greatest x.number) l y.number y.time
 row_set w x y l g later small (inl i) = given_still w.greatest (max w.greatest x.number) w.latest l y.number y.time (omega arith) later.first (g.rows y i)

@@ -3,7 +3,7 @@ use Rattle.std.proofs.Common.{suc, ◌≡◌, ◌==◌, take, drop, ◌<◌, ◌
 use Rattle.std.proofs.lemmas.List.{length-map}
 use Rattle.std.specs.Option.{option_map, option_or}
 use Rattle.std.specs.Str.{bytes_eq}
-use Rattle.std.proofs.lemmas.Bool.{and_parts}
+use Rattle.std.proofs.lemmas.Bool.{and_parts, and_from}
 use Rattle.std.proofs.lemmas.Slice.Eq.{bytes_eq-Decides}
 use Rattle.dav_core.specs.declared.tree.Row.{Row}
 use Rattle.dav_core.specs.Path.{Names, same_names}
@@ -13,8 +13,9 @@ use Rattle.dav_core.specs.Edits.{timed_number}
 use Rattle.dav_core.specs.declared.time.FileTime.{FileTime}
 use Rattle.dav_disk.specs.declared.places.Places.{Places}
 use Rattle.dav_disk.specs.Places.{place_of, Indexes, IsAdded}
-use Rattle.dav_disk.proofs.Added.{both}
-use Rattle.dav_disk.proofs.Trees.{same_yes, same_refl, not_same}
+use Rattle.dav_core.proofs.Paths.{names_same, names_equal, names_differ, no_path_ends}
+use Rattle.dav_core.proofs.ChangedRows.{set_path}
+use Rattle.dav_io.proofs.Cases.{same_tests}
 
 next_below : (b : Bool) (o : Option ℕ) (n i : ℕ) → ((j : ℕ) → o ≡ Some j → j < n) → cond b (Some 0) (option_map suc o) ≡ Some i → i < suc n
 next_below true o n i h e = let zero : 0 ≡ i = cc in omega arith
@@ -74,14 +75,10 @@ place_mapped f same (r ∷ rows) path =
 
 -- ---- paths by their last names
 
-no_end : (names : Names) (x : List ℕ) → names ++ x ∷ [] ≡ [] → ⊥
-no_end [] x e = cc
-no_end (n ∷ names) x e = cc
-
 ends_alike : (a b : Names) (x y : List ℕ) → a ++ x ∷ [] ≡ b ++ y ∷ [] → (a ≡ b) × (x ≡ y)
 ends_alike [] [] x y e = let same : x ≡ y = cc in (refl, same)
-ends_alike [] (n ∷ b) x y e = let rest : [] ≡ b ++ y ∷ [] = cc in absurd (no_end b y (sym rest))
-ends_alike (n ∷ a) [] x y e = let rest : a ++ x ∷ [] ≡ [] = cc in absurd (no_end a x rest)
+ends_alike [] (n ∷ b) x y e = let rest : [] ≡ b ++ y ∷ [] = cc in absurd (no_path_ends b y (sym rest))
+ends_alike (n ∷ a) [] x y e = let rest : a ++ x ∷ [] ≡ [] = cc in absurd (no_path_ends a x rest)
 ends_alike (n ∷ a) (m ∷ b) x y e =
     let first : n ≡ m = cc in
     let rest : a ++ x ∷ [] ≡ b ++ y ∷ [] = cc in
@@ -89,22 +86,17 @@ ends_alike (n ∷ a) (m ∷ b) x y e =
     let front : n ∷ a ≡ m ∷ b = ap (λ k. k ∷ a) first ∙ ap (λ names. m ∷ names) t.0 in
     (front, t.1)
 
-pub same_tests : (b c : Bool) → (b ≡ true → c ≡ true) → (c ≡ true → b ≡ true) → b ≡ c
-same_tests true c h g = sym (h refl)
-same_tests false true h g = g refl
-same_tests false false h g = refl
-
 -- a name in a directory is that of a path
 pub path_test : (dir at : Names) (name added : List ℕ) → same_names (dir ++ name ∷ []) (at ++ added ∷ []) ≡ (same_names at dir && bytes_eq added name)
 path_test dir at name added =
     same_tests (same_names (dir ++ name ∷ []) (at ++ added ∷ [])) (same_names at dir && bytes_eq added name)
     (λ e.
-    let t = ends_alike dir at name added (same_yes (dir ++ name ∷ []) (at ++ added ∷ []) e) in
-    both (same_names at dir) (bytes_eq added name) (same_refl at dir (sym t.0)) ((bytes_eq-Decides added name).1 (sym t.1)))
+    let t = ends_alike dir at name added (names_same (dir ++ name ∷ []) (at ++ added ∷ []) e) in
+    and_from (same_names at dir) (bytes_eq added name) (names_equal at dir (sym t.0)) ((bytes_eq-Decides added name).1 (sym t.1)))
     (λ e.
     let t = and_parts (same_names at dir) (bytes_eq added name) e in
-    same_refl (dir ++ name ∷ []) (at ++ added ∷ [])
-    (ap (λ (p : Names). p ++ name ∷ []) (sym (same_yes at dir t.0)) ∙ ap (λ (n : List ℕ). at ++ n ∷ []) (sym ((bytes_eq-Decides added name).0 t.1))))
+    names_equal (dir ++ name ∷ []) (at ++ added ∷ [])
+    (ap (λ (p : Names). p ++ name ∷ []) (sym (names_same at dir t.0)) ∙ ap (λ (n : List ℕ). at ++ n ∷ []) (sym ((bytes_eq-Decides added name).0 t.1))))
 
 -- ---- an index of rows
 
@@ -123,7 +115,7 @@ row_indexed p q old new row at added n h is path here e = record {
 }
 
 no_path : (dir path : Names) (name : List ℕ) → length path ≡ 0 → dir ++ name ∷ [] ≡ path → ⊥
-no_path dir [] name none e = no_end dir name e
+no_path dir [] name none e = no_path_ends dir name e
 no_path dir (n ∷ path) name none e = omega arith
 
 or_nothing : (o : Option ℕ) (b : Bool) (n : ℕ) → b ≡ false → option_or o (cond b (Some n) None) ≡ o
@@ -137,7 +129,7 @@ pub root_indexed : (p : Places) (old new : List Row) (row : Row) → Indexes p o
 root_indexed p old new row h none e = record {
   places = λ dir name.
       h.places dir name
-      ∙ sym (or_nothing (place_of (dir ++ name ∷ []) old) (same_names (dir ++ name ∷ []) row.path) (length old) (not_same (dir ++ name ∷ []) row.path (no_path dir row.path name none)))
+      ∙ sym (or_nothing (place_of (dir ++ name ∷ []) old) (same_names (dir ++ name ∷ []) row.path) (length old) (names_differ (dir ++ name ∷ []) row.path (no_path dir row.path name none)))
       ∙ sym (place_more old row (dir ++ name ∷ []))
       ∙ sym (ap (place_of (dir ++ name ∷ [])) e);
 }
@@ -162,16 +154,12 @@ written_back n new mid old f len same e =
     ∙ ap (λ k. take k (map f old ++ drop (length new) old)) size
     ∙ front_all (map f old) (drop (length new) old)
 
-timed_path : (b : Bool) (t : FileTime) (r : Row) → (cond b (record r { time = t }) r).path ≡ r.path
-timed_path true t r = refl
-timed_path false t r = refl
-
 pub timed_indexed : (p : Places) (n : ℕ) (new mid old : List Row) (path : Names) (t : FileTime) → Indexes p old → n ≡ length old → mid ≡ old → new ≡ map (timed_row path t) mid
     → Indexes p (take n (new ++ drop (length new) old))
 timed_indexed p n new mid old path t h len same e =
-    mapped_indexed p old (take n (new ++ drop (length new) old)) (timed_row path t) (λ r. timed_path (same_names path r.path) t r) h (written_back n new mid old (timed_row path t) len same e)
+    mapped_indexed p old (take n (new ++ drop (length new) old)) (timed_row path t) (λ r. set_path (same_names path r.path) t r) h (written_back n new mid old (timed_row path t) len same e)
 
 pub timed_number_indexed : (p : Places) (n : ℕ) (new mid old : List Row) (number : ℕ) (t : FileTime) → Indexes p old → n ≡ length old → mid ≡ old → new ≡ map (timed_number number t) mid
     → Indexes p (take n (new ++ drop (length new) old))
 timed_number_indexed p n new mid old number t h len same e =
-    mapped_indexed p old (take n (new ++ drop (length new) old)) (timed_number number t) (λ r. timed_path (r.number == number) t r) h (written_back n new mid old (timed_number number t) len same e)
+    mapped_indexed p old (take n (new ++ drop (length new) old)) (timed_number number t) (λ r. set_path (r.number == number) t r) h (written_back n new mid old (timed_number number t) len same e)

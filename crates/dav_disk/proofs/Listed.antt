@@ -1,76 +1,69 @@
 -- The names that have places in a directory are the names of the rows that stand there.
-use Rattle.std.proofs.Common.{zero, suc, ◌≡◌, ◌+◌, ◌-◌, ◌==◌, ◌⊎◌, ◌||◌, ℕ, List, [], ◌∷◌, ◌++◌, length, map, take, Bool, true, false, cond, Option, None, Some, inl, inr, refl, sym, ap, ◌∙◌, arith}
+use Rattle.std.proofs.Common.{suc, ◌≡◌, ◌+◌, ◌⊎◌, ℕ, List, [], ◌∷◌, ◌++◌, map, Bool, true, false, cond, Option, None, Some, inl, inr, refl, sym, ap, ◌∙◌}
 use Rattle.std.specs.Option.{option_map, is_some}
-use Rattle.std.specs.List.{filter, AllByRecursion, AllPass, IsDistinct, slice_get}
+use Rattle.std.specs.List.{filter, AllByRecursion, AllPass, IsDistinct}
 use Rattle.std.specs.List.Sorted.{IsPermutation}
 use Rattle.std.specs.Ordering.{nat_cmp, is_eq}
-use Rattle.std.specs.Cmp.Lexicographic.{slice_cmp, texts_ties}
-use Rattle.std.specs.Str.{bytes_eq}
-use Rattle.std.proofs.Math.Seq.{take-append_seam, get_or-append_seam}
-use Rattle.std.proofs.lemmas.Bool.{and_parts}
-use Rattle.std.proofs.lemmas.Bool.Decides.{nat_tests}
-use Rattle.std.proofs.lemmas.List.{length-append}
+use Rattle.std.specs.Cmp.Lexicographic.{slice_cmp}
+use Rattle.std.proofs.lemmas.Bool.{and_parts, or_cases, or_left, or_right}
 use Rattle.std.proofs.lemmas.List.Folds.{list_all-append}
 use Rattle.std.proofs.lemmas.List.Elements.{All-from_recursion, recursion_from_All}
 use Rattle.std.proofs.lemmas.List.Sorted.{All-permutation, IsPermutation-refl, IsPermutation-cons, IsPermutation-sym, IsPermutation-trans, IsPermutation-middle}
-use Rattle.std.proofs.lemmas.Option.{slice_get-get_or}
 use Rattle.std.proofs.lemmas.Slice.Eq.{bytes_eq-Decides}
 use Rattle.dav_core.specs.declared.tree.Row.{Row}
-use Rattle.dav_core.specs.DavPath.{last_name}
-use Rattle.dav_core.specs.Path.{Names, same_names, is_front, is_plain, all_plain}
+use Rattle.dav_core.specs.Path.{Names, same_names, is_plain, all_plain}
 use Rattle.dav_core.specs.World.{IsPlain, ArePlain}
 use Rattle.dav_core.specs.Tree.{is_free, is_apart, is_tree}
-use Rattle.dav_core.specs.Listing.{stands_in, name_of, names_in, or_empty}
+use Rattle.dav_core.specs.Listing.{stands_in, name_of, names_in}
 use Rattle.dav_disk.specs.declared.places.Places.{Places}
 use Rattle.dav_disk.specs.Members.{has_name, IsEachOnce, AreNamesOf, members_of}
 use Rattle.dav_disk.specs.Places.{place_of, Indexes}
-use Rattle.dav_disk.proofs.Added.{both}
-use Rattle.dav_disk.proofs.Trees.{same_yes, same_refl, not_both, free_at, parts_of, In}
+use Rattle.dav_disk.proofs.Trees.{not_both, free_at}
+use Rattle.dav_core.proofs.Paths.{names_same, names_equal}
+use Rattle.dav_core.proofs.Elements.{In}
+use Rattle.dav_core.proofs.Rows.{tree_parts, name_pushed, stands_there, path_in}
+use Rattle.std.proofs.lemmas.Map.Text.{is_eq-slice_cmp}
 
 -- ---- lists in which each name stands once
 
-abbrev Among : List ℕ → Names → Type 0
-Among x [] = ⊥
-Among x (y ∷ ys) = (x ≡ y) ⊎ Among x ys
-
 abbrev Once : Names → Type 0
 Once [] = Unit {0}
-Once (x ∷ xs) = (Among x xs → ⊥) × Once xs
+Once (x ∷ xs) = (In x xs → ⊥) × Once xs
 
-split : (x : List ℕ) (ys : Names) → Among x ys → (front : Names) × (back : Names) × (ys ≡ front ++ x ∷ back)
+split : (x : List ℕ) (ys : Names) → In x ys → (front : Names) × (back : Names) × (ys ≡ front ++ x ∷ back)
 split x [] a = absurd a
 split x (y ∷ ys) (inl e) = ([], ys, ap (λ z. z ∷ ys) (sym e))
 split x (y ∷ ys) (inr a) = let t = split x ys a in (y ∷ t.0, t.1, ap (λ zs. y ∷ zs) t.2)
 
-among_more : (x y : List ℕ) (front back : Names) → Among y (front ++ back) → Among y (front ++ x ∷ back)
+among_more : (x y : List ℕ) (front back : Names) → In y (front ++ back) → In y (front ++ x ∷ back)
 among_more x y [] back a = inr a
 among_more x y (z ∷ front) back (inl e) = inl e
 among_more x y (z ∷ front) back (inr a) = inr (among_more x y front back a)
 
-among_less : (x y : List ℕ) (front back : Names) → Among y (front ++ x ∷ back) → (y ≡ x) ⊎ Among y (front ++ back)
+among_less : (x y : List ℕ) (front back : Names) → In y (front ++ x ∷ back) → (y ≡ x) ⊎ In y (front ++ back)
 among_less x y [] back (inl e) = inl e
 among_less x y [] back (inr a) = inr a
 among_less x y (z ∷ front) back (inl e) = inr (inl e)
 among_less x y (z ∷ front) back (inr a) = later (among_less x y front back a)
   where
-    later : (y ≡ x) ⊎ Among y (front ++ back) → (y ≡ x) ⊎ Among y (z ∷ front ++ back)
+    later : (y ≡ x) ⊎ In y (front ++ back) → (y ≡ x) ⊎ In y (z ∷ front ++ back)
     later (inl e) = inl e
     later (inr b) = inr (inr b)
 
-among_here : (x y : List ℕ) (front back : Names) → y ≡ x → Among y (front ++ x ∷ back)
+among_here : (x y : List ℕ) (front back : Names) → y ≡ x → In y (front ++ x ∷ back)
 among_here x y [] back e = inl e
 among_here x y (z ∷ front) back e = inr (among_here x y front back e)
 
-once_rest : (x : List ℕ) (front back : Names) → Once (front ++ x ∷ back) → Once (front ++ back) × (Among x (front ++ back) → ⊥)
+once_rest : (x : List ℕ) (front back : Names) → Once (front ++ x ∷ back) → Once (front ++ back) × (In x (front ++ back) → ⊥)
 once_rest x [] back o = (o.1, o.0)
 once_rest x (z ∷ front) back o = let t = once_rest x front back o.1 in (((λ a. o.0 (among_more x z front back a)), t.0), apart t.1)
   where
-    apart : (Among x (front ++ back) → ⊥) → Among x (z ∷ (front ++ back)) → ⊥
+    apart : (In x (front ++ back) → ⊥) → In x (z ∷ (front ++ back)) → ⊥
     apart h (inl e) = o.0 (among_here x z front back (sym e))
     apart h (inr a) = h a
 
 -- two lists with the same names, each once
-same_once : (xs ys : Names) → Once xs → Once ys → ((x : List ℕ) → Among x xs → Among x ys) → ((x : List ℕ) → Among x ys → Among x xs) → IsPermutation xs ys
+same_once : (xs ys : Names) → Once xs → Once ys → ((x : List ℕ) → In x xs → In x ys) → ((x : List ℕ) → In x ys → In x xs) → IsPermutation xs ys
 same_once [] [] one other to from = IsPermutation-refl []
 same_once [] (y ∷ ys) one other to from = absurd (from y (inl refl))
 same_once (x ∷ xs) ys one other to from =
@@ -81,51 +74,36 @@ same_once (x ∷ xs) ys one other to from =
     (λ y a. back_to y front back apart a (from y (rw e (among_more x y front back a)))) in
     rw e (IsPermutation-trans _ _ _ (IsPermutation-cons x xs (front ++ back) rest) (IsPermutation-sym _ _ (IsPermutation-middle front x back)))
   where
-    kept : (y : List ℕ) (front back : Names) → Among y xs → (y ≡ x) ⊎ Among y (front ++ back) → Among y (front ++ back)
+    kept : (y : List ℕ) (front back : Names) → In y xs → (y ≡ x) ⊎ In y (front ++ back) → In y (front ++ back)
     kept y front back a (inl same) = absurd (one.0 (rw (← same) a))
     kept y front back a (inr b) = b
 
-    back_to : (y : List ℕ) (front back : Names) → (Among x (front ++ back) → ⊥) → Among y (front ++ back) → Among y (x ∷ xs) → Among y xs
+    back_to : (y : List ℕ) (front back : Names) → (In x (front ++ back) → ⊥) → In y (front ++ back) → In y (x ∷ xs) → In y xs
     back_to y front back apart a (inl same) = absurd (apart (rw (← same) a))
     back_to y front back apart a (inr b) = b
 
 -- ---- what an index says of its names
 
-bytes_test : (a b : List ℕ) → is_eq (slice_cmp nat_cmp a b) ≡ bytes_eq a b
-bytes_test a b = sym (texts_ties a b)
-
 alike : (a b : List ℕ) → is_eq (slice_cmp nat_cmp a b) ≡ true → a ≡ b
-alike a b e = (bytes_eq-Decides a b).0 (sym (bytes_test a b) ∙ e)
+alike a b e = (bytes_eq-Decides a b).0 (sym (is_eq-slice_cmp a b) ∙ e)
 
 alike_same : (a b : List ℕ) → a ≡ b → is_eq (slice_cmp nat_cmp a b) ≡ true
-alike_same a b e = bytes_test a b ∙ (bytes_eq-Decides a b).1 e
+alike_same a b e = is_eq-slice_cmp a b ∙ (bytes_eq-Decides a b).1 e
 
-or_cases : (a b : Bool) → (a || b) ≡ true → (a ≡ true) ⊎ (b ≡ true)
-or_cases true b e = inl refl
-or_cases false b e = inr e
-
-or_first : (a b : Bool) → a ≡ true → (a || b) ≡ true
-or_first true b e = refl
-or_first false b e = cc
-
-or_second : (a b : Bool) → b ≡ true → (a || b) ≡ true
-or_second true b e = refl
-or_second false b e = e
-
-among_has : (x : List ℕ) (xs : Names) → Among x xs → has_name xs x ≡ true
+among_has : (x : List ℕ) (xs : Names) → In x xs → has_name xs x ≡ true
 among_has x [] a = absurd a
-among_has x (y ∷ ys) (inl e) = or_first _ (has_name ys x) (alike_same x y e)
-among_has x (y ∷ ys) (inr a) = or_second (is_eq (slice_cmp nat_cmp x y)) _ (among_has x ys a)
+among_has x (y ∷ ys) (inl e) = or_left _ (has_name ys x) (alike_same x y e)
+among_has x (y ∷ ys) (inr a) = or_right (is_eq (slice_cmp nat_cmp x y)) _ (among_has x ys a)
 
-has_among : (x : List ℕ) (xs : Names) → has_name xs x ≡ true → Among x xs
+has_among : (x : List ℕ) (xs : Names) → has_name xs x ≡ true → In x xs
 has_among x [] e = cc
 has_among x (y ∷ ys) e = from (has_among x ys) (or_cases (is_eq (slice_cmp nat_cmp x y)) (has_name ys x) e)
   where
-    from : (has_name ys x ≡ true → Among x ys) → (is_eq (slice_cmp nat_cmp x y) ≡ true) ⊎ (has_name ys x ≡ true) → Among x (y ∷ ys)
+    from : (has_name ys x ≡ true → In x ys) → (is_eq (slice_cmp nat_cmp x y) ≡ true) ⊎ (has_name ys x ≡ true) → In x (y ∷ ys)
     from h (inl t) = inl (alike x y t)
     from h (inr t) = inr (h t)
 
-apart_among : (x : List ℕ) (xs : Names) → AllByRecursion (λ y. is_eq (slice_cmp nat_cmp x y) ≡ false) xs → Among x xs → ⊥
+apart_among : (x : List ℕ) (xs : Names) → AllByRecursion (λ y. is_eq (slice_cmp nat_cmp x y) ≡ false) xs → In x xs → ⊥
 apart_among x [] all a = a
 apart_among x (y ∷ ys) all (inl e) = not_both (is_eq (slice_cmp nat_cmp x y)) (alike_same x y e) all.0
 apart_among x (y ∷ ys) all (inr a) = apart_among x ys all.1 a
@@ -137,70 +115,34 @@ once_from (x ∷ xs) d = (apart_among x xs d.0, once_from xs d.1)
 
 -- ---- the names of rows
 
-nothing : (path : Names) → length path ≡ 0 → path ≡ []
-nothing [] e = refl
-nothing (x ∷ path) e = absurd (omega arith)
-
-last_at : (path : Names) (n : ℕ) → length path ≡ n + 1 → (x : List ℕ) × (path ≡ take n path ++ x ∷ [])
-last_at [] n e = absurd (omega arith)
-last_at (x ∷ path) zero e = let none : length path ≡ 0 = omega arith in (x, ap (λ names. x ∷ names) (nothing path none))
-last_at (x ∷ path) (suc n) e = let rest = last_at path n (omega arith) in (rest.0, ap (λ names. x ∷ names) rest.1)
-
-name_pushed : (dir : Names) (name : List ℕ) (row : Row) → row.path ≡ dir ++ name ∷ [] → name_of row ≡ name
-name_pushed dir name row path =
-    let long : length (dir ++ name ∷ []) ≡ length dir + 1 = length-append dir (name ∷ []) in
-    let place : length (dir ++ name ∷ []) - 1 ≡ length dir = omega (arith, long) in
-    ap (λ p. or_empty (last_name p)) path
-    ∙ ap or_empty (ap (slice_get (dir ++ name ∷ [])) place ∙ slice_get-get_or (dir ++ name ∷ []) (length dir) name (omega (arith, long)) ∙ ap (λ x. Some x) (get_or-append_seam dir name [] name))
-
-equal_numbers : (n k : ℕ) → (n == k) ≡ true → n ≡ k
-equal_numbers n k t = grind (arith, nat_tests)
-
-same_number : (n k : ℕ) → n ≡ k → (n == k) ≡ true
-same_number n k e = grind (arith, nat_tests)
-
-stands_yes : (dir : Names) (name : List ℕ) (row : Row) → row.path ≡ dir ++ name ∷ [] → stands_in dir row ≡ true
-stands_yes dir name row path =
-    both (length row.path == length dir + 1) (is_front dir row.path)
-    (same_number (length row.path) (length dir + 1) (ap length path ∙ length-append dir (name ∷ [])))
-    (same_refl dir (take (length dir) row.path) (sym (ap (take (length dir)) path ∙ take-append_seam dir (name ∷ []))))
-
-path_in : (dir : Names) (row : Row) → stands_in dir row ≡ true → row.path ≡ dir ++ name_of row ∷ []
-path_in dir row stands =
-    let p = and_parts (length row.path == length dir + 1) (is_front dir row.path) stands in
-    let front : dir ≡ take (length dir) row.path = same_yes dir (take (length dir) row.path) p.1 in
-    let (x, is) = last_at row.path (length dir) (equal_numbers (length row.path) (length dir + 1) p.0) in
-    let path : row.path ≡ dir ++ x ∷ [] = is ∙ ap (λ z. z ++ x ∷ []) (sym front) in
-    path ∙ ap (λ z. dir ++ z ∷ []) (sym (name_pushed dir x row path))
-
 abbrev StandsAt : Names → List Row → Type 0
 StandsAt path rows = (row : Row) × In row rows × (row.path ≡ path)
 
-row_among : (dir : Names) (rows : List Row) (x : List ℕ) → Among x (names_in rows dir) → StandsAt (dir ++ x ∷ []) rows
+row_among : (dir : Names) (rows : List Row) (x : List ℕ) → In x (names_in rows dir) → StandsAt (dir ++ x ∷ []) rows
 row_among dir [] x a = absurd a
 row_among dir (r ∷ rows) x a = by (row_among dir rows x) (stands_in dir r) refl a
   where
     later : StandsAt (dir ++ x ∷ []) rows → StandsAt (dir ++ x ∷ []) (r ∷ rows)
     later s = (s.0, inr s.1, s.2)
 
-    by : (Among x (names_in rows dir) → StandsAt (dir ++ x ∷ []) rows) → (b : Bool) → stands_in dir r ≡ b → Among x (map name_of (cond b (r ∷ filter (stands_in dir) rows) (filter (stands_in dir) rows))) → StandsAt (dir ++ x ∷ []) (r ∷ rows)
+    by : (In x (names_in rows dir) → StandsAt (dir ++ x ∷ []) rows) → (b : Bool) → stands_in dir r ≡ b → In x (map name_of (cond b (r ∷ filter (stands_in dir) rows) (filter (stands_in dir) rows))) → StandsAt (dir ++ x ∷ []) (r ∷ rows)
     by h true e (inl same) = (r, inl refl, path_in dir r e ∙ ap (λ z. dir ++ z ∷ []) (sym same))
     by h true e (inr a) = later (h a)
     by h false e a = later (h a)
 
-among_row : (dir : Names) (rows : List Row) (x : List ℕ) (row : Row) → In row rows → row.path ≡ dir ++ x ∷ [] → Among x (names_in rows dir)
+among_row : (dir : Names) (rows : List Row) (x : List ℕ) (row : Row) → In row rows → row.path ≡ dir ++ x ∷ [] → In x (names_in rows dir)
 among_row dir [] x row i path = absurd i
 among_row dir (r ∷ rows) x row i path = by (λ j. among_row dir rows x row j path) (stands_in dir r) refl i
   where
-    here : (b : Bool) → stands_in dir r ≡ b → row ≡ r → Among x (map name_of (cond b (r ∷ filter (stands_in dir) rows) (filter (stands_in dir) rows)))
+    here : (b : Bool) → stands_in dir r ≡ b → row ≡ r → In x (map name_of (cond b (r ∷ filter (stands_in dir) rows) (filter (stands_in dir) rows)))
     here true e same = inl (sym (name_pushed dir x r (ap (λ (y : Row). y.path) (sym same) ∙ path)))
-    here false e same = absurd (not_both (stands_in dir r) (stands_yes dir x r (ap (λ (y : Row). y.path) (sym same) ∙ path)) e)
+    here false e same = absurd (not_both (stands_in dir r) (stands_there dir x r (ap (λ (y : Row). y.path) (sym same) ∙ path)) e)
 
-    later : (b : Bool) → Among x (names_in rows dir) → Among x (map name_of (cond b (r ∷ filter (stands_in dir) rows) (filter (stands_in dir) rows)))
+    later : (b : Bool) → In x (names_in rows dir) → In x (map name_of (cond b (r ∷ filter (stands_in dir) rows) (filter (stands_in dir) rows)))
     later true a = inr a
     later false a = a
 
-    by : (In row rows → Among x (names_in rows dir)) → (b : Bool) → stands_in dir r ≡ b → (row ≡ r) ⊎ In row rows → Among x (map name_of (cond b (r ∷ filter (stands_in dir) rows) (filter (stands_in dir) rows)))
+    by : (In row rows → In x (names_in rows dir)) → (b : Bool) → stands_in dir r ≡ b → (row ≡ r) ⊎ In row rows → In x (map name_of (cond b (r ∷ filter (stands_in dir) rows) (filter (stands_in dir) rows)))
     by h b e (inl same) = here b e same
     by h b e (inr j) = later b (h j)
 
@@ -211,10 +153,10 @@ names_once dir (r ∷ rows) apart = by (names_once dir rows (and_parts (is_free 
     parts : (is_free rows r ≡ true) × (is_apart rows ≡ true)
     parts = and_parts (is_free rows r) (is_apart rows) apart
 
-    alone : stands_in dir r ≡ true → Among (name_of r) (names_in rows dir) → ⊥
+    alone : stands_in dir r ≡ true → In (name_of r) (names_in rows dir) → ⊥
     alone stands a =
         let (s, i, path) = row_among dir rows (name_of r) a in
-        not_both (same_names s.path r.path) (same_refl s.path r.path (path ∙ sym (path_in dir r stands))) (free_at r rows s parts.0 i).0
+        not_both (same_names s.path r.path) (names_equal s.path r.path (path ∙ sym (path_in dir r stands))) (free_at r rows s parts.0 i).0
 
     by : Once (names_in rows dir) → (b : Bool) → stands_in dir r ≡ b → Once (map name_of (cond b (r ∷ filter (stands_in dir) rows) (filter (stands_in dir) rows)))
     by h true e = (alone e, h)
@@ -231,7 +173,7 @@ some_here false o e = cc
 
 row_placed : (rows : List Row) (path : Names) (row : Row) → In row rows → row.path ≡ path → is_some (place_of path rows) ≡ true
 row_placed [] path row i e = absurd i
-row_placed (r ∷ rows) path row (inl same) e = some_here (same_names path r.path) (place_of path rows) (same_refl path r.path (sym e ∙ ap (λ (y : Row). y.path) same))
+row_placed (r ∷ rows) path row (inl same) e = some_here (same_names path r.path) (place_of path rows) (names_equal path r.path (sym e ∙ ap (λ (y : Row). y.path) same))
 row_placed (r ∷ rows) path row (inr i) e = some_later (same_names path r.path) (place_of path rows) (row_placed rows path row i e)
 
 placed_row : (rows : List Row) (path : Names) → is_some (place_of path rows) ≡ true → StandsAt path rows
@@ -239,14 +181,14 @@ placed_row [] path e = cc
 placed_row (r ∷ rows) path e = by (placed_row rows path) (same_names path r.path) (place_of path rows) refl refl e
   where
     by : (is_some (place_of path rows) ≡ true → StandsAt path rows) → (b : Bool) (o : Option ℕ) → same_names path r.path ≡ b → place_of path rows ≡ o → is_some (cond b (Some 0) (option_map suc o)) ≡ true → StandsAt path (r ∷ rows)
-    by h true o t p e = (r, inl refl, sym (same_yes path r.path t))
+    by h true o t p e = (r, inl refl, sym (names_same path r.path t))
     by h false None t p e = cc
     by h false (Some i) t p e = let s = h (ap is_some p) in (s.0, inr s.1, s.2)
 
 -- the names of an index are those of the rows
 pub index_lists : (p : Places) (rows : List Row) (dir : Names) (names : Names) → is_tree rows ≡ true → Indexes p rows → AreNamesOf (members_of p.dirs dir) names → IsPermutation (names_in rows dir) names
 index_lists p rows dir names tree index listed =
-    same_once (names_in rows dir) names (names_once dir rows (parts_of rows tree).apart) (once_from names listed.0)
+    same_once (names_in rows dir) names (names_once dir rows (tree_parts rows tree).apart) (once_from names listed.0)
     (λ x a. let (row, i, path) = row_among dir rows x a in
     has_among x names (listed.2 x ∙ ap is_some (index.places dir x) ∙ row_placed rows (dir ++ x ∷ []) row i path))
     (λ x a. let (row, i, path) = placed_row rows (dir ++ x ∷ []) (ap is_some (sym (index.places dir x)) ∙ sym (listed.2 x) ∙ among_has x names a) in

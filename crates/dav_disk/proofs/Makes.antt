@@ -18,6 +18,7 @@ use Rattle.dav_disk.specs.declared.sure_disk.SureDisk.{SureDisk}
 use Rattle.dav_disk.specs.Failing.{FollowsOr, UnlessFault, fails_at, mem_world}
 use Rattle.dav_disk.specs.Sure.{FailsOnly}
 use Rattle.dav_disk.proofs.Edited.{edited_by_is, edited_opens}
+use Rattle.std.proofs.lemmas.Bool.{both_ways}
 
 -- what a call leaves that made nothing
 left_by : (may : Bool) (allowed : Allowed) (v w : World) → w ≡ v → LeftBy may allowed v w
@@ -108,25 +109,22 @@ fails_spent allowed k n (Err NotDir) m f = cc
 fails_spent allowed k n (Err IsDir) m f = cc
 fails_spent allowed k n (Err NotEmpty) m f = cc
 
-not_spent : (allowed : Allowed) (e : DiskError) (w : World) → allowed ≡ Err e → is_spent allowed w ≡ true → ⊥
-not_spent allowed e w refused spent = let t : false ≡ true = sym (ap (λ a. is_spent a w) refused) ∙ spent in cc
+pub refused_not_spent : (allowed : Allowed) (e : DiskError) (w : World) → allowed ≡ Err e → is_spent allowed w ≡ true → ⊥
+refused_not_spent allowed e w refused spent = let t : false ≡ true = sym (ap (λ a. is_spent a w) refused) ∙ spent in cc
 
-none_not : (allowed : Allowed) (edit : Option Edit) (w v : World) → allowed ≡ Ok edit → edited_by edit w ≡ Some v → is_spent allowed w ≡ true → ⊥
-none_not allowed edit w v e made spent = let t : false ≡ true = sym (ap (λ a. is_spent a w) e ∙ ap is_none made) ∙ spent in cc
-
-both_ways : (b : Bool) → b ≡ false → b ≡ true → ⊥
-both_ways b f t = let e : false ≡ true = sym f ∙ t in cc
+pub made_not_spent : (allowed : Allowed) (edit : Option Edit) (w v : World) → allowed ≡ Ok edit → edited_by edit w ≡ Some v → is_spent allowed w ≡ true → ⊥
+made_not_spent allowed edit w v e made spent = let t : false ≡ true = sym (ap (λ a. is_spent a w) e ∙ ap is_none made) ∙ spent in cc
 
 -- and it fails there
 pub spent_fails : (allowed : Allowed) (k n : Known) (result : Result Unit DiskError) → MakesAt allowed k result n → is_spent allowed k.world ≡ true → IsErrOf result Failed
-spent_fails allowed k n (Ok x) (edit, e, made, rest) spent = absurd (none_not allowed edit k.world n.world e made spent)
+spent_fails allowed k n (Ok x) (edit, e, made, rest) spent = absurd (made_not_spent allowed edit k.world n.world e made spent)
 spent_fails allowed k n (Err Failed) m spent = refl
 spent_fails allowed k n (Err NoMemory) (same, left) spent = absurd (both_ways (is_spent allowed k.world) left spent)
-spent_fails allowed k n (Err NotFound) (same, e) spent = absurd (not_spent allowed NotFound k.world e spent)
-spent_fails allowed k n (Err Exists) (same, e) spent = absurd (not_spent allowed Exists k.world e spent)
-spent_fails allowed k n (Err NotDir) (same, e) spent = absurd (not_spent allowed NotDir k.world e spent)
-spent_fails allowed k n (Err IsDir) (same, e) spent = absurd (not_spent allowed IsDir k.world e spent)
-spent_fails allowed k n (Err NotEmpty) (same, e) spent = absurd (not_spent allowed NotEmpty k.world e spent)
+spent_fails allowed k n (Err NotFound) (same, e) spent = absurd (refused_not_spent allowed NotFound k.world e spent)
+spent_fails allowed k n (Err Exists) (same, e) spent = absurd (refused_not_spent allowed Exists k.world e spent)
+spent_fails allowed k n (Err NotDir) (same, e) spent = absurd (refused_not_spent allowed NotDir k.world e spent)
+spent_fails allowed k n (Err IsDir) (same, e) spent = absurd (refused_not_spent allowed IsDir k.world e spent)
+spent_fails allowed k n (Err NotEmpty) (same, e) spent = absurd (refused_not_spent allowed NotEmpty k.world e spent)
 
 -- ---- the counts
 

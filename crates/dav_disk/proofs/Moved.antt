@@ -1,8 +1,8 @@
 -- A path that is moved, with all below it, leaves a tree.
 use Rattle.std.proofs.Common.{zero, suc, ◌≡◌, ◌≤◌, ◌<◌, ◌==◌, ◌-◌, ◌+◌, ◌||◌, ◌⊎◌, ◌++◌, [], ℕ, List, Bool, true, false, cond, not, length, map, take, drop, Option, None, Some, Result, Ok, Err, inl, inr, refl, sym, ap, ◌∙◌, arith, append-nil}
-use Rattle.std.proofs.lemmas.Bool.{and_parts}
+use Rattle.std.proofs.lemmas.Bool.{and_parts, not-true, not_from_false, cases_Bool}
 use Rattle.std.proofs.lemmas.Bool.Decides.{nat_tests}
-use Rattle.std.proofs.lemmas.List.{take-take, take-append-drop, drop-take, length-append, length-drop}
+use Rattle.std.proofs.lemmas.List.{take-take, drop-take, length-append, length-drop}
 use Rattle.std.proofs.Math.Seq.{take-append_seam, take-append-add, drop-append_seam}
 use Rattle.dav_core.specs.declared.tree.Row.{Row}
 use Rattle.dav_core.specs.declared.tree.Kind.{Kind}
@@ -16,8 +16,12 @@ use Rattle.dav_core.specs.Tree.{row_at, is_dir, has_dir, is_tree, look}
 use Rattle.dav_core.specs.World.{World, Stored}
 use Rattle.dav_core.specs.Changes.{tick, timed_row, touched_at, touched, then_touched, made_or, without, moved_row, is_leaf, yields, renames_to, parents_touched, renamed_found, changed}
 use Rattle.dav_disk.specs.Files.{IsStored}
-use Rattle.dav_disk.proofs.Trees.{In, Parts, parts_of, Maps, mapped_tree, in_map, map_in, in_filter, filter_in, in_find, all_at, dir_at, dir_stands, parent_row, same_yes, same_refl, not_true, not_false, not_both, none_or_some, front_yes, front_no, front_parent, front_length, parent_length, no_front_parent, no_front_root, no_names, IsFront}
+use Rattle.dav_disk.proofs.Trees.{Maps, mapped_tree, dir_at, dir_stands, parent_row, not_both, front_yes, front_no, front_parent, front_length, no_front_parent, no_front_root, no_names, IsFront}
 use Rattle.dav_disk.proofs.Changed.{Good, GoodIf, made_good, cond_good, touched_good, timed_good, timed_maps, without_good, without_tree, look_in, dir_added_good, file_added_good, cut_good, remove_good}
+use Rattle.dav_core.proofs.Paths.{names_same, names_equal, parent_length, front_rest}
+use Rattle.dav_core.proofs.Elements.{In, all_at, in_map, map_in, in_filter, filter_in}
+use Rattle.dav_core.proofs.Rows.{IsTree, in_row_at, tree_parts}
+use Rattle.dav_core.proofs.ChangedRows.{timed_path}
 
 path_yes : (b : Bool) (r : Row) (path : Names) → b ≡ true → (cond b (record r { path = path }) r).path ≡ path
 path_yes true r path e = refl
@@ -27,11 +31,11 @@ path_no : (b : Bool) (r : Row) (path : Names) → b ≡ false → (cond b (recor
 path_no true r path e = cc
 path_no false r path e = refl
 
-kind_same : (b : Bool) (r : Row) (path : Names) → (cond b (record r { path = path }) r).kind ≡ r.kind
+pub kind_same : (b : Bool) (r : Row) (path : Names) → (cond b (record r { path = path }) r).kind ≡ r.kind
 kind_same true r path = refl
 kind_same false r path = refl
 
-number_same : (b : Bool) (r : Row) (path : Names) → (cond b (record r { path = path }) r).number ≡ r.number
+pub number_same : (b : Bool) (r : Row) (path : Names) → (cond b (record r { path = path }) r).number ≡ r.number
 number_same true r path = refl
 number_same false r path = refl
 
@@ -48,12 +52,8 @@ moved_yes from to r e = path_yes (is_front from r.path) r (new_path from to r.pa
 moved_no : (from to : Names) (r : Row) → is_front from r.path ≡ false → (moved_row from to r).path ≡ r.path
 moved_no from to r e = path_no (is_front from r.path) r (new_path from to r.path) e
 
--- a path below another, by its front and its rest
-front_rest : (from path : Names) → is_front from path ≡ true → path ≡ from ++ drop (length from) path
-front_rest from path e = sym (take-append-drop (length from) path) ∙ ap (λ front. front ++ drop (length from) path) (sym (front_yes from path e))
-
 front_is : (front path : Names) → IsFront front path → is_front front path ≡ true
-front_is front path e = same_refl front (take (length front) path) e
+front_is front path e = names_equal front (take (length front) path) e
 
 to_front : (to rest : Names) → IsFront to (to ++ rest)
 to_front to rest = sym (take-append_seam to rest)
@@ -63,7 +63,7 @@ same_rest to x y e = sym (drop-append_seam to x) ∙ ap (drop (length to)) e ∙
 
 -- what isn't below a path, is not where a row below it comes from
 not_moved_there : (to path rest : Names) → not (is_front to path) ≡ true → to ++ rest ≡ path → ⊥
-not_moved_there to path rest keep e = not_both (is_front to path) (front_is to path (to_front to rest ∙ ap (take (length to)) e)) (not_true (is_front to path) keep)
+not_moved_there to path rest keep e = not_both (is_front to path) (front_is to path (to_front to rest ∙ ap (take (length to)) e)) (not-true (is_front to path) keep)
 
 moved_apart : (from to : Names) (r s : Row) → not (is_front to r.path) ≡ true → not (is_front to s.path) ≡ true → (moved_row from to r).path ≡ (moved_row from to s).path
     → ((is_front from r.path ≡ true) ⊎ (is_front from r.path ≡ false)) → ((is_front from s.path ≡ true) ⊎ (is_front from s.path ≡ false)) → r.path ≡ s.path
@@ -90,7 +90,7 @@ to_parent tree from to fits =
     let d = dir_at tree (parent_of to) fits.parent in
     let below : is_front to d.0.path ≡ false = front_no to d.0.path (λ f. no_front_parent to fits.some_to (f ∙ ap (take (length to)) d.2)) in
     let still : is_front from d.0.path ≡ false = front_no from d.0.path (λ f. not_both (is_front from to) (front_is from to (front_parent from to (f ∙ ap (take (length from)) d.2))) fits.not_into) in
-    (d.0, filter_in (kept to) tree d.0 (not_false (is_front to d.0.path) below) d.1, d.3, moved_no from to d.0 still ∙ d.2)
+    (d.0, filter_in (kept to) tree d.0 (not_from_false (is_front to d.0.path) below) d.1, d.3, moved_no from to d.0 still ∙ d.2)
 
 length_zero : (path : Names) → (length path == 0) ≡ false → 0 < length path
 length_zero path e = grind (arith, nat_tests)
@@ -113,7 +113,7 @@ parent_moved from to path front some =
           ∙ ap (λ n. take n (to ++ drop (length from) path)) (sym more),
     )
 
-moved_parent : (tree : List Row) (from to : Names) (r : Row) → Fits tree from to → Parts (without to tree) → In r (without to tree) → (length r.path == 0) ≡ false
+moved_parent : (tree : List Row) (from to : Names) (r : Row) → Fits tree from to → IsTree (without to tree) → In r (without to tree) → (length r.path == 0) ≡ false
     → ((is_front from r.path ≡ true) ⊎ (is_front from r.path ≡ false)) → ((length (drop (length from) r.path) == 0) ≡ true) ⊎ ((length (drop (length from) r.path) == 0) ≡ false)
     → (d : Row) × In d (without to tree) × (d.kind ≡ Dir) × ((moved_row from to d).path ≡ parent_of (moved_row from to r).path)
 moved_parent tree from to r fits p i some (inl moves) (inl none) =
@@ -143,13 +143,13 @@ moved_root from to r some e = moved_no from to r (front_no from r.path (λ f. no
 
 pub moved_maps : (tree : List Row) (from to : Names) → is_tree tree ≡ true → Fits tree from to → Maps (without to tree) (moved_row from to)
 moved_maps tree from to whole fits =
-    let p = parts_of (without to tree) (without_tree tree to whole fits.some_to) in record {
+    let p = tree_parts (without to tree) (without_tree tree to whole fits.some_to) in record {
       kind = λ r. kind_same (is_front from r.path) r (new_path from to r.path);
       number = λ r. number_same (is_front from r.path) r (new_path from to r.path);
-      apart = λ r s i j e. moved_apart from to r s (in_filter (kept to) tree r i).1 (in_filter (kept to) tree s j).1 e (none_or_some (is_front from r.path)) (none_or_some (is_front from s.path));
+      apart = λ r s i j e. moved_apart from to r s (in_filter (kept to) tree r i).1 (in_filter (kept to) tree s j).1 e (cases_Bool (is_front from r.path)) (cases_Bool (is_front from s.path));
       root = λ r e. moved_root from to r fits.some_from e;
-      top = λ r i e. moved_top from to r fits.some_to (none_or_some (is_front from r.path)) e;
-      parent = λ r i some. moved_parent tree from to r fits p i some (none_or_some (is_front from r.path)) (none_or_some (length (drop (length from) r.path) == 0));
+      top = λ r i e. moved_top from to r fits.some_to (cases_Bool (is_front from r.path)) e;
+      parent = λ r i some. moved_parent tree from to r fits p i some (cases_Bool (is_front from r.path)) (cases_Bool (length (drop (length from) r.path) == 0));
     }
 
 abbrev pub moved_world : World → Names → Names → World
@@ -173,14 +173,14 @@ pub to_parent_stands : (w : World) (from to : Names) → Good w → Fits w.tree 
 to_parent_stands w from to g fits =
     let d = to_parent w.tree from to fits in
     let f = moved_row from to in
-    dir_stands (map f (without to w.tree)) (f d.0) (parent_of to) (parts_of (map f (without to w.tree)) (moved_good w from to g fits).tree).apart
+    dir_stands (map f (without to w.tree)) (f d.0) (parent_of to) (tree_parts (map f (without to w.tree)) (moved_good w from to g fits).tree).apart
     (map_in f (without to w.tree) d.0 d.1) (kind_same (is_front from d.0.path) d.0 (new_path from to d.0.path) ∙ d.2) d.3
 
 some_length : (path : Names) (k n : ℕ) → length path ≡ k + suc n → (length path == 0) ≡ false
 some_length path k n e = grind (arith, nat_tests)
 
 -- each proper front of a row's path is a directory
-fronts : (rows : List Row) (n k : ℕ) (r : Row) → Parts rows → In r rows → length r.path ≡ k + suc n → (e : Row) × In e rows × (e.path ≡ take k r.path) × (e.kind ≡ Dir)
+fronts : (rows : List Row) (n k : ℕ) (r : Row) → IsTree rows → In r rows → length r.path ≡ k + suc n → (e : Row) × In e rows × (e.path ≡ take k r.path) × (e.kind ≡ Dir)
 fronts rows zero k r p i len =
     let d = parent_row rows r p i (some_length r.path k 0 len) in
     let count : length r.path - 1 ≡ k = omega arith in
@@ -200,16 +200,16 @@ only_other false b e f = cc
 
 no_leaf : (tree : List Row) (path : Names) (row : Row) → In row tree → is_leaf path tree ≡ true → IsFront path row.path → (path ≡ row.path → ⊥) → ⊥
 no_leaf tree path row i leaf front differs =
-    let here = all_at (λ row. not (is_front path row.path) || same_names path row.path) tree row leaf i in
-    differs (same_yes path row.path (only_other (is_front path row.path) (same_names path row.path) (front_is path row.path front) here))
+    let here = all_at (λ (row : Row). not (is_front path row.path) || same_names path row.path) tree row leaf i in
+    differs (names_same path row.path (only_other (is_front path row.path) (same_names path row.path) (front_is path row.path front) here))
 
 no_yield : (kind : Kind) (tree : List Row) (e row : Row) → In row tree → e.kind ≡ Dir → IsFront e.path row.path → (e.path ≡ row.path → ⊥) → yields kind (Some e) tree ≡ true → ⊥
 no_yield Dir tree e row i dir front differs y = no_leaf tree e.path row i (and_parts (is_dir e.kind) (is_leaf e.path tree) y).1 front differs
-no_yield File tree e row i dir front differs y = not_both (is_dir e.kind) (ap is_dir dir) (not_true (is_dir e.kind) y)
-no_yield Link tree e row i dir front differs y = not_both (is_dir e.kind) (ap is_dir dir) (not_true (is_dir e.kind) y)
+no_yield File tree e row i dir front differs y = not_both (is_dir e.kind) (ap is_dir dir) (not-true (is_dir e.kind) y)
+no_yield Link tree e row i dir front differs y = not_both (is_dir e.kind) (ap is_dir dir) (not-true (is_dir e.kind) y)
 
 -- nothing is moved onto a path above it
-not_above : (tree : List Row) (row : Row) (to : Names) → Parts tree → In row tree → Fits tree row.path to → yields row.kind (row_at tree to) tree ≡ true → IsFront to (parent_of row.path) → ⊥
+not_above : (tree : List Row) (row : Row) (to : Names) → IsTree tree → In row tree → Fits tree row.path to → yields row.kind (row_at tree to) tree ≡ true → IsFront to (parent_of row.path) → ⊥
 not_above tree row to p i fits y front =
     let l = front_length to (parent_of row.path) front in
     let m = parent_length row.path in
@@ -218,7 +218,7 @@ not_above tree row to p i fits y front =
     let above = front_parent to row.path front in
     let (e, at, path, dir) = fronts tree (length row.path - length to - 1) (length to) row p i len in
     let here : e.path ≡ to = path ∙ sym above in
-    let found = ap (row_at tree) (sym here) ∙ in_find tree e p.apart at in
+    let found = ap (row_at tree) (sym here) ∙ in_row_at tree e p.apart at in
     no_yield row.kind tree e row i dir (ap (λ (p : Names). p) here ∙ above ∙ ap (λ n. take n row.path) (ap length (sym here)))
     (λ same. let lengths = ap length (sym here ∙ same) in omega arith)
     (ap (λ o. yields row.kind o tree) (sym found) ∙ y)
@@ -226,21 +226,14 @@ not_above tree row to p i fits y front =
 pub from_parent_stands : (w : World) (row : Row) (to : Names) → Good w → In row w.tree → Fits w.tree row.path to → yields row.kind (row_at w.tree to) w.tree ≡ true
     → has_dir (moved_world w row.path to).tree (parent_of row.path) ≡ true
 from_parent_stands w row to g i fits y =
-    let p = parts_of w.tree g.tree in
+    let p = tree_parts w.tree g.tree in
     let d = parent_row w.tree row p i fits.some_from in
     let f = moved_row row.path to in
     let below : is_front to d.0.path ≡ false = front_no to d.0.path (λ front. not_above w.tree row to p i fits y (front ∙ ap (take (length to)) d.2)) in
     let still : is_front row.path d.0.path ≡ false = front_no row.path d.0.path (λ front. no_front_parent row.path fits.some_from (front ∙ ap (take (length row.path)) d.2)) in
-    dir_stands (map f (without to w.tree)) (f d.0) (parent_of row.path) (parts_of (map f (without to w.tree)) (moved_good w row.path to g fits).tree).apart
-    (map_in f (without to w.tree) d.0 (filter_in (kept to) w.tree d.0 (not_false (is_front to d.0.path) below) d.1))
+    dir_stands (map f (without to w.tree)) (f d.0) (parent_of row.path) (tree_parts (map f (without to w.tree)) (moved_good w row.path to g fits).tree).apart
+    (map_in f (without to w.tree) d.0 (filter_in (kept to) w.tree d.0 (not_from_false (is_front to d.0.path) below) d.1))
     (kind_same (is_front row.path d.0.path) d.0 (new_path row.path to d.0.path) ∙ d.3) (moved_no row.path to d.0 still ∙ d.2)
-
-time_path : (b : Bool) (t : FileTime) (r : Row) → (cond b (record r { time = t }) r).path ≡ r.path
-time_path true t r = refl
-time_path false t r = refl
-
-timed_path_of : (other : Names) (t : FileTime) (r : Row) → (timed_row other t r).path ≡ r.path
-timed_path_of other t r = time_path (same_names other r.path) t r
 
 -- a directory stands where it stood, after a time was set
 timed_dir : (w : World) (path other : Names) (t : FileTime) → Good w → has_dir w.tree path ≡ true → has_dir w.tree other ≡ true → has_dir (map (timed_row other t) w.tree) path ≡ true
@@ -248,7 +241,7 @@ timed_dir w path other t g dir there =
     let d = dir_at w.tree path dir in
     let f = timed_row other t in
     let m = timed_maps w.tree other t g.tree in
-    dir_stands (map f w.tree) (f d.0) path (parts_of (map f w.tree) (timed_good w other t g there).tree).apart (map_in f w.tree d.0 d.1) (m.kind d.0 ∙ d.3) (timed_path_of other t d.0 ∙ d.2)
+    dir_stands (map f w.tree) (f d.0) path (tree_parts (map f w.tree) (timed_good w other t g there).tree).apart (map_in f w.tree d.0 d.1) (m.kind d.0 ∙ d.3) (timed_path other t d.0 ∙ d.2)
 
 then_good : (w : World) (path other : Names) (o : Option FileTime) → Good w → has_dir w.tree path ≡ true → has_dir w.tree other ≡ true → GoodIf (then_touched path (touched_at other o w))
 then_good w path other None g dir there = tt
@@ -272,9 +265,9 @@ fits_of w row to e =
     let v = and_parts (not (is_front row.path to)) _ u.1 in
     let x = and_parts (has_dir w.tree (parent_of to)) _ v.1 in (
       record {
-        some_from = not_true (length row.path == 0) t.0;
-        some_to = not_true (length to == 0) u.0;
-        not_into = not_true (is_front row.path to) v.0;
+        some_from = not-true (length row.path == 0) t.0;
+        some_to = not-true (length to == 0) u.0;
+        not_into = not-true (is_front row.path to) v.0;
         parent = x.0;
       },
       x.1,

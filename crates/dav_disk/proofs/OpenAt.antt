@@ -25,16 +25,16 @@ use Rattle.dav_disk.proofs.DirsStay.{is_kept}
 use Rattle.dav_disk.proofs.Edited.{edited_opens}
 use Rattle.dav_disk.proofs.GivenStay.{bounded_of}
 use Rattle.dav_disk.proofs.Judges.{Judged}
-use Rattle.dav_disk.proofs.OpenDone.{place_row}
-use Rattle.dav_disk.proofs.Trees.{find_in}
+use Rattle.dav_core.proofs.Rows.{row_at_in}
+use Rattle.dav_core.proofs.PlaceLemmas.{placed_row}
 
 -- what stands at a place has a number that was given
 pub placed_given : (w : World) (path : Names) (row : Row) → AreGiven w.tree w.files w.opens w.greatest w.latest → place w.tree path ≡ Ok (Some row) → row.number ≤ w.greatest
-placed_given w path row given at = ((bounded_of w given).rows row (find_in w.tree path row (place_row w.tree path (Some row) at)).0).within
+placed_given w path row given at = ((bounded_of w given).rows row (row_at_in w.tree path row (placed_row w.tree path (Some row) at)).0).within
 
 -- a file that stands at a place is stored
 pub placed_kept : (w : World) (path : Names) (row : Row) → AreStored w.tree w.files → place w.tree path ≡ Ok (Some row) → row.kind ≡ File → is_some (w.files row.number) ≡ true
-placed_kept w path row stored at file = is_kept w.tree w.files row stored (find_in w.tree path row (place_row w.tree path (Some row) at)).0 file
+placed_kept w path row stored at file = is_kept w.tree w.files row stored (row_at_in w.tree path row (placed_row w.tree path (Some row) at)).0 file
 
 -- An opening that makes nothing leaves what has which number.
 pub opened_no_dir : (k n : Known) (number : ℕ) (kind : Kind) (how : OpenOptions) (h : Handle) → OpensBy None number kind how k (Ok h) n → NamesNoDir k.world.tree number → NamesNoDir n.world.tree number

@@ -1,12 +1,11 @@
 -- An opening that does what is allowed is what the trait of disks asks, with the counts beside it.
-use Rattle.std.proofs.Common.{◌≡◌, ◌==◌, ◌+◌, ◌&&◌, ◌||◌, ◌⊎◌, ◌∷◌, ◌++◌, [], ℕ, List, Bool, true, false, cond, map, Option, None, Some, Result, Ok, Err, IsErrOf, OnErr, inl, inr, refl, sym, ap, ◌∙◌, arith, append-nil, append_assoc, nat_lt}
-use Rattle.std.specs.Option.{option_map, is_none}
-use Rattle.std.proofs.lemmas.Bool.Decides.{nat_tests}
+use Rattle.std.proofs.Common.{◌≡◌, ◌==◌, ◌+◌, ◌&&◌, ◌||◌, ◌⊎◌, ◌∷◌, ◌++◌, [], ℕ, List, Bool, true, false, cond, map, Option, None, Some, Result, Ok, Err, IsErrOf, OnErr, inl, inr, refl, sym, ap, ◌∙◌, nat_lt}
+use Rattle.std.specs.Option.{option_map}
 use Rattle.std.specs.Str.{bytes_eq}
 use Rattle.dav_io.specs.Counts.{greatest as most}
 use Rattle.dav_core.specs.declared.tree.Row.{Row}
 use Rattle.dav_core.specs.declared.tree.Kind.{Kind}
-use Rattle.dav_core.specs.declared.tree.Kind.TheVariants.{Dir, File, Link}
+use Rattle.dav_core.specs.declared.tree.Kind.TheVariants.{File}
 use Rattle.dav_core.specs.declared.handle.Handle.{Handle}
 use Rattle.dav_core.specs.declared.handle.OpenOptions.{OpenOptions}
 use Rattle.dav_core.specs.declared.handle.DiskError.{DiskError}
@@ -18,18 +17,21 @@ use Rattle.dav_core.specs.World.{World, OpenFile, Holds, SameBesidesOpens, Store
 use Rattle.dav_core.specs.Disk.{Live, Opens, OpenedBy, OpenedIn, OpenedOver, MayRefuseOpen, Refused, may_change, kind_opened, with_opens, at_start}
 use Rattle.dav_core.specs.Edits.{Edit, makes, fills, filled, timed_number}
 use Rattle.dav_core.specs.Changes.{tick, timed_row, touched_at, then_touched, added_at, stored_in}
-use Rattle.dav_core.specs.Allowed.{Allowed, place, place_from, through, through_kind, opening, opening_at, opening_row}
+use Rattle.dav_core.specs.Allowed.{Allowed, place, opening, opening_at, opening_row}
 use Rattle.dav_core.proofs.LookLemmas.{look_err}
-use Rattle.dav_core.proofs.PlaceLemmas.{look_place, stands_at}
+use Rattle.dav_core.proofs.PlaceLemmas.{look_place, stands_at, placed_row}
 use Rattle.dav_core.proofs.UnchangedLemmas.{put_same, same_besides}
 use Rattle.dav_disk.specs.Calls.{Known, state_of, lengths}
 use Rattle.dav_disk.specs.Making.{OpensAs, IsOpened, edited, edited_by, filled_at, is_spent}
 use Rattle.dav_disk.proofs.Edited.{edited_by_is, edited_opens}
 use Rattle.dav_disk.proofs.Judges.{opening_err}
 use Rattle.dav_disk.specs.Failing.{UnlessFault}
-use Rattle.dav_disk.proofs.Makes.{Noted, is_counted, unless_fault}
+use Rattle.dav_disk.proofs.Makes.{Noted, is_counted, unless_fault, refused_not_spent, made_not_spent}
 use Rattle.dav_disk.proofs.Then.{edited_then, put_besides}
-use Rattle.dav_disk.proofs.Trees.{In, not_both, same_refl, find_in}
+use Rattle.dav_disk.proofs.Trees.{not_both}
+use Rattle.dav_core.proofs.Paths.{names_equal}
+use Rattle.dav_core.proofs.Rows.{row_at_in, numbered_in, first_none}
+use Rattle.dav_core.proofs.ChangedRows.{set_kind, set_number, set_path}
 
 abbrev Given : World → Type 0
 Given w = AreGiven w.tree w.files w.opens w.greatest w.latest
@@ -92,19 +94,6 @@ plain_err how path (Ok None) e p h =
 
 -- ---- rows
 
-numbered_here : (m n : ℕ) (later : Bool) → m ≡ n → ((m == n) || later) ≡ true
-numbered_here m n later e = grind (arith, nat_tests)
-
-numbered_later : (b later : Bool) → later ≡ true → (b || later) ≡ true
-numbered_later true later e = refl
-numbered_later false later e = e
-
--- the number of a row stands in the tree
-numbered_in : (rows : List Row) (r : Row) → In r rows → is_numbered rows r.number ≡ true
-numbered_in [] r i = absurd i
-numbered_in (x ∷ rows) r (inl e) = numbered_here r.number x.number (is_numbered rows r.number) (ap (λ (z : Row). z.number) e)
-numbered_in (x ∷ rows) r (inr i) = numbered_later (r.number == x.number) (is_numbered rows r.number) (numbered_in rows r i)
-
 chosen_map : (b : Bool) (f : Row → Row) (x : Row) (o : Option Row) → cond b (Some (f x)) (option_map f o) ≡ option_map f (cond b (Some x) o)
 chosen_map true f x o = refl
 chosen_map false f x o = refl
@@ -117,34 +106,12 @@ row_at_map f (x ∷ rows) path keeps =
     ∙ ap (λ o. cond (same_names path x.path) (Some (f x)) o) (row_at_map f rows path keeps)
     ∙ chosen_map (same_names path x.path) f x (row_at rows path)
 
-none_first : (b : Bool) (x : Row) (o : Option Row) → cond b (Some x) o ≡ None → (b ≡ false) × (o ≡ None)
-none_first true x o e = cc
-none_first false x o e = (refl, e)
-
 -- a row more stands at its path
 row_at_more : (rows : List Row) (row : Row) → row_at rows row.path ≡ None → row_at (rows ++ row ∷ []) row.path ≡ Some row
-row_at_more [] row e = ap (λ b. cond b (Some row) None) (same_refl row.path row.path refl)
+row_at_more [] row e = ap (λ b. cond b (Some row) None) (names_equal row.path row.path refl)
 row_at_more (x ∷ rows) row e =
-    let t = none_first (same_names row.path x.path) x (row_at rows row.path) e in
+    let t = first_none (same_names row.path x.path) x (row_at rows row.path) e in
     ap (λ b. cond b (Some x) (row_at (rows ++ row ∷ []) row.path)) t.0 ∙ row_at_more rows row t.1
-
-kind_ok : (k : Kind) (found : Result (Option Row) DiskError) (o : Option Row) → through_kind k found ≡ Ok o → found ≡ Ok o
-kind_ok Dir found o e = e
-kind_ok File found o e = cc
-kind_ok Link found o e = cc
-
-row_ok : (r : Option Row) (found : Result (Option Row) DiskError) (o : Option Row) → through r found ≡ Ok o → found ≡ Ok o
-row_ok None found o e = cc
-row_ok (Some r) found o e = kind_ok r.kind found o e
-
-place_row_from : (tree : List Row) (at names : Names) (o : Option Row) → place_from tree at names ≡ Ok o → row_at tree (at ++ names) ≡ o
-place_row_from tree at [] o e = (let h : row_at tree at ≡ o = cc in ap (row_at tree) (append-nil at) ∙ h)
-place_row_from tree at (name ∷ names) o e =
-    ap (row_at tree) (sym (append_assoc at (name ∷ []) names)) ∙ place_row_from tree (at ++ name ∷ []) names o (row_ok (row_at tree at) _ o e)
-
--- what a place has stands at the path
-pub place_row : (tree : List Row) (path : Names) (o : Option Row) → place tree path ≡ Ok o → row_at tree path ≡ o
-place_row tree path o e = place_row_from tree [] path o e
 
 -- ---- the row that is opened, in the world that is made
 
@@ -153,18 +120,6 @@ record Stands (w : World) (path : Names) (number : ℕ) (kind : Kind) : Type 0 w
   here : row_at w.tree path ≡ Some row
   number_is : row.number ≡ number
   kind_is : row.kind ≡ kind
-
-timed_kind : (b : Bool) (t : FileTime) (r : Row) → (cond b (record r { time = t }) r).kind ≡ r.kind
-timed_kind true t r = refl
-timed_kind false t r = refl
-
-timed_number_of : (b : Bool) (t : FileTime) (r : Row) → (cond b (record r { time = t }) r).number ≡ r.number
-timed_number_of true t r = refl
-timed_number_of false t r = refl
-
-timed_path : (b : Bool) (t : FileTime) (r : Row) → (cond b (record r { time = t }) r).path ≡ r.path
-timed_path true t r = refl
-timed_path false t r = refl
 
 -- the rows after a file was made
 record Rows (v m : World) (path : Names) : Type 0 where
@@ -196,10 +151,10 @@ made_stands v m path free e =
     let f : Row → Row = timed_row (parent_of path) r.touched in
     record {
       row = f row;
-      here = ap (λ (t : List Row). row_at t path) r.tree ∙ row_at_map f (v.tree ++ row ∷ []) path (λ x. timed_path (same_names (parent_of path) x.path) r.touched x)
-          ∙ ap (option_map f) (row_at_more v.tree row (place_row v.tree path None free));
-      number_is = timed_number_of (same_names (parent_of path) path) r.touched row;
-      kind_is = timed_kind (same_names (parent_of path) path) r.touched row;
+      here = ap (λ (t : List Row). row_at t path) r.tree ∙ row_at_map f (v.tree ++ row ∷ []) path (λ x. set_path (same_names (parent_of path) x.path) r.touched x)
+          ∙ ap (option_map f) (row_at_more v.tree row (placed_row v.tree path None free));
+      number_is = set_number (same_names (parent_of path) path) r.touched row;
+      kind_is = set_kind (same_names (parent_of path) path) r.touched row;
     }
 
 filled_stands : (v m : World) (path : Names) (n : ℕ) (bytes : List ℕ) (row : Row) (o : Option FileTime) → row_at v.tree path ≡ Some row → filled_at n bytes o v ≡ Some m → Stands m path row.number row.kind
@@ -209,9 +164,9 @@ filled_stands v m path n bytes row (Some t) at e =
     let same : map f v.tree ≡ m.tree = (let w : record (filled n bytes t v) { latest = t } ≡ m = cc in ap (λ (w : World). w.tree) w) in
     record {
       row = f row;
-      here = ap (λ (t : List Row). row_at t path) (sym same) ∙ row_at_map f v.tree path (λ x. timed_path (x.number == n) t x) ∙ ap (option_map f) at;
-      number_is = timed_number_of (row.number == n) t row;
-      kind_is = timed_kind (row.number == n) t row;
+      here = ap (λ (t : List Row). row_at t path) (sym same) ∙ row_at_map f v.tree path (λ x. set_path (x.number == n) t x) ∙ ap (option_map f) at;
+      number_is = set_number (row.number == n) t row;
+      kind_is = set_kind (row.number == n) t row;
     }
 
 fills_stand : (b : Bool) (v m : World) (path : Names) (n : ℕ) (bytes : List ℕ) (row : Row) → row_at v.tree path ≡ Some row → cond b (Some v) (filled_at n bytes (tick v.latest) v) ≡ Some m → Stands m path row.number row.kind
@@ -236,7 +191,7 @@ opened_stands : (v m : World) (path : Names) (how : OpenOptions) (edit : Option 
 opened_stands v m path how edit number kind judged (inl (n, k, made, free)) e = rw (n, k) (made_stands v m path free (ap (λ x. edited_by x v) (sym made) ∙ e))
 opened_stands v m path how edit number kind judged (inr (row, at, n, k)) e =
     let h : opening_row how row ≡ Ok edit = ap (opening_at how path) (sym at) ∙ judged in
-    rw (← n, ← k) (row_stands v m path row edit (place_row v.tree path (Some row) at)
+    rw (← n, ← k) (row_stands v m path row edit (placed_row v.tree path (Some row) at)
     (row_edit how.create_new (is_dir row.kind && (how.write || how.append)) (is_file row.kind && (how.write && how.truncate)) (fills row.number []) edit h) e)
 
 -- ---- what an opening does
@@ -251,7 +206,7 @@ over_ok k n path how h f a x given (edit, number, kind, judged, opened, (m, made
     let s = opened_stands k.world m path how edit number kind judged opened made in
     let w : World = with_opens m (put h.0 (Some (at_start number)) m.opens) in
     let world : n.world ≡ w = ap (λ (n : Known). n.world) e in
-    let held : Holds m number = inl (rw (← s.number_is) (numbered_in m.tree s.row (find_in m.tree path s.row s.here).0)) in
+    let held : Holds m number = inl (rw (← s.number_is) (numbered_in m.tree s.row (row_at_in m.tree path s.row s.here).0)) in
     let beside : SameBesidesOpens m w = put_besides m h.0 (Some (at_start number)) (λ n f. let same : number ≡ n = cc in rw (← same) held) in (
       number,
       ap (λ (w : World). w.opens) world ∙ ap (λ (t : ℕ → Option OpenFile). put h.0 (Some (at_start number)) t) opens.opens,
@@ -269,7 +224,7 @@ over_ok k n path how h f a x given (edit, number, kind, judged, opened, (m, made
     )
   where
     numbered : (m : World) (s : Stands m path number kind) (number : ℕ) → s.row.number ≡ number → is_numbered m.tree number ≡ true
-    numbered m s number e = rw (← e) (numbered_in m.tree s.row (find_in m.tree path s.row s.here).0)
+    numbered m s number e = rw (← e) (numbered_in m.tree s.row (row_at_in m.tree path s.row s.here).0)
 
 in_ok : (k n : Known) (path : Names) (how : OpenOptions) (h : Handle) (f a : ℕ) (x : Bool) → Plainly how → OpensAs k path how (Ok h) n
     → OpenedIn path (Ok h) (kind_opened (Ok h) (state_of n f a x)) k.world n.world
@@ -281,7 +236,7 @@ in_ok k n path how h f a x plain (edit, number, kind, judged, opened, (m, made, 
     let is : (row.number ≡ number) × (row.kind ≡ kind) = is_row row at opened in (
       number,
       ap (λ (n : Known). n.world) e ∙ ap (λ (m : World). with_opens m (put h.0 (Some (at_start number)) m.opens)) world,
-      inl (rw (← is.0) (numbered_in k.world.tree row (find_in k.world.tree path row (place_row k.world.tree path (Some row) at)).0)),
+      inl (rw (← is.0) (numbered_in k.world.tree row (row_at_in k.world.tree path row (placed_row k.world.tree path (Some row) at)).0)),
       λ linked. (row, found, is.0, kind_put k.live h.0 (record { kind = kind; how = how }) n.live (ap (λ (n : Known). n.live) e) ∙ ap Some (sym is.1)),
     )
   where
@@ -388,21 +343,15 @@ open_fails k n path how (Err NotDir) o f = cc
 open_fails k n path how (Err IsDir) o f = cc
 open_fails k n path how (Err NotEmpty) o f = cc
 
-not_so : (allowed : Allowed) (e : DiskError) (w : World) → allowed ≡ Err e → is_spent allowed w ≡ true → ⊥
-not_so allowed e w refused spent = let t : false ≡ true = sym (ap (λ a. is_spent a w) refused) ∙ spent in cc
-
-made_so : (allowed : Allowed) (edit : Option Edit) (w v : World) → allowed ≡ Ok edit → edited_by edit w ≡ Some v → is_spent allowed w ≡ true → ⊥
-made_so allowed edit w v e made spent = let t : false ≡ true = sym (ap (λ a. is_spent a w) e ∙ ap is_none made) ∙ spent in cc
-
 pub fails_open : (k n : Known) (path : Names) (how : OpenOptions) (result : Result Handle DiskError) → OpensAs k path how result n → is_spent (opening k.world.tree path how) k.world ≡ true → IsErrOf result Failed
-fails_open k n path how (Ok h) (edit, number, kind, judged, opened, (m, made, free, e)) spent = absurd (made_so (opening k.world.tree path how) edit k.world m judged made spent)
+fails_open k n path how (Ok h) (edit, number, kind, judged, opened, (m, made, free, e)) spent = absurd (made_not_spent (opening k.world.tree path how) edit k.world m judged made spent)
 fails_open k n path how (Err Failed) o spent = refl
 fails_open k n path how (Err NoMemory) o spent = absurd (not_both (is_spent (opening k.world.tree path how) k.world) spent o.1)
-fails_open k n path how (Err NotFound) o spent = absurd (not_so (opening k.world.tree path how) NotFound k.world o.1 spent)
-fails_open k n path how (Err Exists) o spent = absurd (not_so (opening k.world.tree path how) Exists k.world o.1 spent)
-fails_open k n path how (Err NotDir) o spent = absurd (not_so (opening k.world.tree path how) NotDir k.world o.1 spent)
-fails_open k n path how (Err IsDir) o spent = absurd (not_so (opening k.world.tree path how) IsDir k.world o.1 spent)
-fails_open k n path how (Err NotEmpty) o spent = absurd (not_so (opening k.world.tree path how) NotEmpty k.world o.1 spent)
+fails_open k n path how (Err NotFound) o spent = absurd (refused_not_spent (opening k.world.tree path how) NotFound k.world o.1 spent)
+fails_open k n path how (Err Exists) o spent = absurd (refused_not_spent (opening k.world.tree path how) Exists k.world o.1 spent)
+fails_open k n path how (Err NotDir) o spent = absurd (refused_not_spent (opening k.world.tree path how) NotDir k.world o.1 spent)
+fails_open k n path how (Err IsDir) o spent = absurd (refused_not_spent (opening k.world.tree path how) IsDir k.world o.1 spent)
+fails_open k n path how (Err NotEmpty) o spent = absurd (refused_not_spent (opening k.world.tree path how) NotEmpty k.world o.1 spent)
 
 -- an opening that is refused leaves the world
 pub open_leaves : (k n : Known) (path : Names) (how : OpenOptions) (result : Result Handle DiskError) → OpensAs k path how result n → OnErr result (n.world ≡ k.world)

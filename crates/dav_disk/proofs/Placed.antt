@@ -16,13 +16,11 @@ use Rattle.std.specs.BTreeMap.{BTreeMap, get_by, UpdatesBy, Updates, is_at, keys
 use Rattle.std.proofs.lemmas.Map.Keys.{IsDistinct-from_sorted, Less-from_sorted}
 use Rattle.dav_core.specs.Path.{Names, same_names}
 use Rattle.dav_disk.specs.Members.{member_in, members_of, has_name, IsEachOnce, AreNamesOf}
-use Rattle.dav_disk.proofs.Trees.{same_yes}
+use Rattle.dav_core.proofs.Paths.{names_same}
+use Rattle.std.proofs.lemmas.Map.Text.{is_eq-slice_cmp}
 
 names_test : (a b : Names) → is_eq (slice_cmp (slice_cmp nat_cmp) a b) ≡ same_names a b
 names_test a b = sym (lists_ties (slice_cmp nat_cmp) texts_ties a b)
-
-bytes_test : (a b : List ℕ) → is_eq (slice_cmp nat_cmp a b) ≡ bytes_eq a b
-bytes_test a b = sym (texts_ties a b)
 
 other_keys : {K X : Type 0} (eq : K → K → Bool) (test : K → Bool) (old new : List (K × X)) → KeepsOthers eq test old new → (other : K → Bool) → IsKeyTest eq other → AreApart test other
     → lookup other new ≡ lookup other old
@@ -38,7 +36,7 @@ apart_names at dir k n y =
 changed_by : {K X : Type 0} (f : K → Names) (at dir : Names) (b : Bool) (old new : BTreeMap K X) (w : Option X) → b ≡ same_names at dir
     → UpdatesBy (λ x y. slice_cmp (slice_cmp nat_cmp) (f x) (f y)) (λ k. slice_cmp (slice_cmp nat_cmp) at (f k)) old new w
     → get_by (λ k. slice_cmp (slice_cmp nat_cmp) dir (f k)) new ≡ cond b w (get_by (λ k. slice_cmp (slice_cmp nat_cmp) dir (f k)) old)
-changed_by f at dir true old new w e u = ap (λ (p : Names). get_by (λ k. slice_cmp (slice_cmp nat_cmp) p (f k)) new) (sym (same_yes at dir (sym e))) ∙ u.1
+changed_by f at dir true old new w e u = ap (λ (p : Names). get_by (λ k. slice_cmp (slice_cmp nat_cmp) p (f k)) new) (sym (names_same at dir (sym e))) ∙ u.1
 changed_by f at dir false old new w e u =
     other_keys _ _ old.entries new.entries u.3 _
     (λ x y h. (eq_by_cmp_equiv (lists_total nat_list_cmp_total)).congr dir (f x) (f y) h)
@@ -76,7 +74,7 @@ pub member_put : (added key : List ℕ) (place : ℕ) (there : Option Members) (
     → (name : List ℕ) → get_by (slice_cmp nat_cmp name) new ≡ cond (bytes_eq added name) (Some place) (member_in there name)
 member_put added key place there old new k e u name =
     u.0 name
-    ∙ ap (λ b. cond b (Some place) (get_by (slice_cmp nat_cmp name) old)) (bytes_test key name ∙ ap (λ (k : List ℕ). bytes_eq k name) k)
+    ∙ ap (λ b. cond b (Some place) (get_by (slice_cmp nat_cmp name) old)) (is_eq-slice_cmp key name ∙ ap (λ (k : List ℕ). bytes_eq k name) k)
     ∙ ap (λ (o : Option Members). cond (bytes_eq added name) (Some place) (member_in o name)) e
 
 -- and after the first is
@@ -84,7 +82,7 @@ pub member_first : (added key : List ℕ) (place : ℕ) (there : Option Members)
     → (name : List ℕ) → get_by (slice_cmp nat_cmp name) new ≡ cond (bytes_eq added name) (Some place) (member_in there name)
 member_first added key place there old new k e empty u name =
     u.0 name
-    ∙ ap (λ b. cond b (Some place) (get_by (slice_cmp nat_cmp name) old)) (bytes_test key name ∙ ap (λ (k : List ℕ). bytes_eq k name) k)
+    ∙ ap (λ b. cond b (Some place) (get_by (slice_cmp nat_cmp name) old)) (is_eq-slice_cmp key name ∙ ap (λ (k : List ℕ). bytes_eq k name) k)
     ∙ ap (λ es. cond (bytes_eq added name) (Some place) (lookup (is_at (slice_cmp nat_cmp name)) es)) empty
     ∙ ap (λ (o : Option Members). cond (bytes_eq added name) (Some place) (member_in o name)) (sym e)
 
@@ -93,7 +91,7 @@ added_by : (f : Names → Option Members) (at dir : Names) (added name : List �
     → member_in (f at) added ≡ None
     → member_in (cond b (Some m) (f dir)) name ≡ option_or (member_in (f dir) name) (cond (b && bytes_eq added name) (Some place) None)
 added_by f at dir added name place m true e has none =
-    let same = same_yes at dir (sym e) in
+    let same = names_same at dir (sym e) in
     has name
     ∙ first_place (bytes_eq added name) place (member_in (f at) name) (λ y. ap (member_in (f at)) (sym (bytes_yes added name y)) ∙ none)
     ∙ ap (λ (p : Names). option_or (member_in (f p) name) (cond (bytes_eq added name) (Some place) None)) same
@@ -112,7 +110,7 @@ kept_by : (f : Names → Option Members) (at dir : Names) (name : List ℕ) (m n
     → member_in (cond b (Some n) (f dir)) name ≡ member_in (f dir) name
 kept_by f at dir name m n true e there same =
     ap (lookup (is_at (slice_cmp nat_cmp name))) same
-    ∙ ap (λ (o : Option Members). member_in o name) (there ∙ ap f (same_yes at dir (sym e)))
+    ∙ ap (λ (o : Option Members). member_in o name) (there ∙ ap f (names_same at dir (sym e)))
 kept_by f at dir name m n false e there same = refl
 
 -- the places, where the members of a directory stay
@@ -130,7 +128,7 @@ stands_still (Some i) p e = refl
 still_by : (f : Names → List ℕ → Option ℕ) (at dir : Names) (added name : List ℕ) (place : ℕ) (b c : Bool) → b ≡ same_names at dir → c ≡ bytes_eq added name → is_some (f at added) ≡ true
     → f dir name ≡ option_or (f dir name) (cond (b && c) (Some place) None)
 still_by f at dir added name place true true e d some =
-    stands_still (f dir name) (Some place) (ap is_some (ap (f dir) (sym (bytes_yes added name (sym d))) ∙ ap (λ (p : Names). f p added) (sym (same_yes at dir (sym e)))) ∙ some)
+    stands_still (f dir name) (Some place) (ap is_some (ap (f dir) (sym (bytes_yes added name (sym d))) ∙ ap (λ (p : Names). f p added) (sym (names_same at dir (sym e)))) ∙ some)
 still_by f at dir added name place true false e d some = or_none (f dir name)
 still_by f at dir added name place false c e d some = or_none (f dir name)
 

@@ -25,6 +25,7 @@ use Rattle.dav_core.specs.Writing.{appends, write_place, written}
 use Rattle.dav_disk.specs.Calls.{Known}
 use Rattle.dav_disk.specs.Making.{edited, edited_by, filled_at, is_spent, MakesAt, OpensAs, WritesAt}
 use Rattle.dav_disk.specs.Memory.{HasRoom}
+use Rattle.std.proofs.lemmas.Option.{same_Some}
 
 -- ---- what a world used up
 
@@ -72,12 +73,9 @@ went_not v w e f =
     let s : w.latest.secs ≡ v.latest.secs = ap (λ (t : FileTime). t.secs) f in
     record { grew = record { numbers = omega arith; times = omega (arith, ints) }; near = omega (arith, ints) }
 
-some_is : (v w : World) → Some v ≡ Some w → v ≡ w
-some_is v w e = cc
-
 went_some : (n : ℕ) (w v : World) (o : Option World) → Went n w o → o ≡ Some v → Grew w v
 went_some n w v None lacks e = cc
-went_some n w v (Some x) near e = rw (← some_is x v e) near.grew
+went_some n w v (Some x) near e = rw (← same_Some x v e) near.grew
 
 -- ---- ticks
 
@@ -223,7 +221,7 @@ turned_grew w = turned_by_grew w w.script
 -- ---- calls
 
 by_edit : (edit : Option Edit) (w v : World) → edited_by edit w ≡ Some v → Grew w v
-by_edit None w v e = grew_as w v (sym (some_is w v e))
+by_edit None w v e = grew_as w v (sym (same_Some w v e))
 by_edit (Some edit) w v e = went_some 2 w v (edited edit w) (edited_went edit w) e
 
 same_known : (k n : Known) → n ≡ k → Grew k.world n.world

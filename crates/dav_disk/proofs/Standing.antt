@@ -1,11 +1,9 @@
 -- Where nothing stands and a call may make something, the path is free; and what a change makes of it is the edit.
-use Rattle.std.proofs.Common.{◌≡◌, ◌==◌, ◌&&◌, ◌||◌, ◌+◌, ◌-◌, ◌∷◌, ◌++◌, ◌⊎◌, [], inl, inr, ℕ, List, Bool, true, false, cond, not, length, take, map, subst, nat_lt, Option, None, Some, Result, Ok, Err, OnOk, OnErr, refl, sym, ap, ◌∙◌, arith, append_assoc, append-nil}
+use Rattle.std.proofs.Common.{◌≡◌, ◌==◌, ◌&&◌, ◌||◌, ◌+◌, ◌∷◌, ◌++◌, ◌⊎◌, [], inl, inr, ℕ, List, Bool, true, false, cond, not, length, map, subst, nat_lt, Option, None, Some, Result, Ok, Err, OnOk, OnErr, refl, sym, ap, ◌∙◌, arith, append_assoc}
 use Rattle.std.specs.Option.{is_none, is_some}
 use Rattle.std.specs.Result.{is_err}
-use Rattle.std.proofs.lemmas.Bool.{and_parts}
+use Rattle.std.proofs.lemmas.Bool.{and_parts, and_from}
 use Rattle.std.proofs.lemmas.Bool.Decides.{nat_tests}
-use Rattle.std.proofs.lemmas.List.{length-append}
-use Rattle.std.proofs.Math.Seq.{take-append_seam}
 use Rattle.dav_io.specs.Counts.{greatest}
 use Rattle.dav_core.specs.declared.tree.Row.{Row}
 use Rattle.dav_core.specs.declared.tree.Kind.{Kind}
@@ -14,15 +12,17 @@ use Rattle.dav_core.specs.declared.time.FileTime.{FileTime}
 use Rattle.dav_core.specs.declared.handle.DiskError.{DiskError}
 use Rattle.dav_core.specs.declared.handle.DiskError.TheVariants.{NotDir, IsDir, NotEmpty, Failed, NoMemory}
 use Rattle.dav_core.specs.Path.{Names, same_names, parent_of, is_front}
-use Rattle.dav_core.specs.Tree.{row_at, is_dir, is_dir_row, has_dir, is_tree, look, look_from, below, below_kind, standing}
+use Rattle.dav_core.specs.Tree.{row_at, is_dir, is_dir_row, has_dir, is_tree, look, standing}
 use Rattle.dav_core.specs.World.{World}
 use Rattle.dav_core.specs.Changes.{tick, touched_at, touched, then_touched, is_free_in, added_at, stored_in, made_or, dir_added, file_added, without, removed_found, is_leaf, yields, moved_row, renames_to, renamed_found, parents_touched}
 use Rattle.dav_core.specs.Edits.{Edit, makes, takes, moves}
 use Rattle.dav_core.specs.Allowed.{Allowed, place, place_from, through, through_kind, found_then, making_at, is_root, taking_dir_row, taking_dir, taking_file_row, taking_file, moving_over, moving_to, moving}
 use Rattle.dav_disk.specs.Making.{MakesAt, edited, is_spent, row_is_left, move_is_left, tick_after}
 use Rattle.dav_disk.specs.Calls.{Known}
-use Rattle.dav_disk.proofs.Added.{both}
-use Rattle.dav_disk.proofs.Trees.{parts_of, not_both, no_names, find_in}
+use Rattle.dav_disk.proofs.Trees.{not_both, no_names}
+use Rattle.dav_core.proofs.Rows.{row_at_in, tree_parts}
+use Rattle.dav_core.proofs.LookLemmas.{look_there}
+use Rattle.dav_core.proofs.Paths.{parent_pushed}
 
 -- ---- places
 
@@ -35,13 +35,6 @@ row_found : (r : Option Row) (found : Result (Option Row) DiskError) (o : Option
 row_found None found o e = cc
 row_found (Some r) found o e = kind_found r.kind found o e
 
--- the parent of a path with a name more
-parent_more : (at : Names) (name : List ℕ) → parent_of (at ++ name ∷ []) ≡ at
-parent_more at name =
-    let len : length (at ++ name ∷ []) ≡ length at + 1 = simp length-append (omega arith) in
-    let less : length (at ++ name ∷ []) - 1 ≡ length at = omega arith in
-    ap (λ n. take n (at ++ name ∷ [])) less ∙ take-append_seam at (name ∷ [])
-
 -- what a path's place has above it, and at it
 pub record Found (tree : List Row) (path : Names) (o : Option Row) : Type 0 where
   pub above : has_dir tree (parent_of path) ≡ true
@@ -50,7 +43,7 @@ pub record Found (tree : List Row) (path : Names) (o : Option Row) : Type 0 wher
 found_from : (tree : List Row) (at : Names) (name : List ℕ) (names : Names) (o : Option Row) → place_from tree at (name ∷ names) ≡ Ok o → Found tree (at ++ name ∷ names) o
 found_from tree at name [] o e =
     let t = row_found (row_at tree at) (place_from tree (at ++ name ∷ []) []) o e in
-    record { above = ap (has_dir tree) (parent_more at name) ∙ t.0; here = (let h : row_at tree (at ++ name ∷ []) ≡ o = cc (t.1) in h) }
+    record { above = ap (has_dir tree) (parent_pushed at name) ∙ t.0; here = (let h : row_at tree (at ++ name ∷ []) ≡ o = cc (t.1) in h) }
 found_from tree at name (next ∷ names) o e =
     let t = row_found (row_at tree at) (place_from tree (at ++ name ∷ []) (next ∷ names)) o e in
     let f = found_from tree (at ++ name ∷ []) next names o t.1 in
@@ -65,47 +58,29 @@ none_is_dir o e d = let t : false ≡ true = sym (ap is_dir_row e) ∙ d in cc
 
 -- where nothing stands is no root
 not_root : (tree : List Row) (path : Names) → is_tree tree ≡ true → place tree path ≡ Ok None → (length path == 0) ≡ false
-not_root tree [] whole e = absurd (none_is_dir (row_at tree []) (let h : row_at tree [] ≡ None = cc in h) (parts_of tree whole).root)
+not_root tree [] whole e = absurd (none_is_dir (row_at tree []) (let h : row_at tree [] ≡ None = cc in h) (tree_parts tree whole).root)
 not_root tree (name ∷ names) whole e = grind (arith, nat_tests)
 
 pub free_place : (tree : List Row) (path : Names) → is_tree tree ≡ true → place tree path ≡ Ok None → is_free_in tree path ≡ true
 free_place tree path whole e =
     let some = not_root tree path whole e in
     let f = place_found tree path None some e in
-    both (not (length path == 0)) (has_dir tree (parent_of path) && is_none (row_at tree path)) (ap not some)
-    (both (has_dir tree (parent_of path)) (is_none (row_at tree path)) f.above (ap is_none f.here))
+    and_from (not (length path == 0)) (has_dir tree (parent_of path) && is_none (row_at tree path)) (ap not some)
+    (and_from (has_dir tree (parent_of path)) (is_none (row_at tree path)) f.above (ap is_none f.here))
 
 -- what a look finds stands at its path
-look_from_path : (tree : List Row) (at names : Names) (row : Row) → look_from tree at names ≡ Ok row → row.path ≡ at ++ names
-look_from_path tree at [] row e = sym (found_here (row_at tree at) refl e) ∙ sym (append-nil at)
-  where
-    found_here : (o : Option Row) → row_at tree at ≡ o → standing o ≡ Ok row → at ≡ row.path
-    found_here None f e = cc
-    found_here (Some r) f e = (let same : r ≡ row = cc in (find_in tree at r f).1 ∙ ap (λ (r : Row). r.path) same)
-look_from_path tree at (name ∷ names) row e =
-    look_from_path tree (at ++ name ∷ []) names row (on_below (row_at tree at) _ e) ∙ append_assoc at (name ∷ []) names
-  where
-    on_kind : (k : Kind) (found : Result Row DiskError) → below_kind k found ≡ Ok row → found ≡ Ok row
-    on_kind Dir found e = e
-    on_kind File found e = cc
-    on_kind Link found e = cc
-
-    on_below : (o : Option Row) (found : Result Row DiskError) → below o found ≡ Ok row → found ≡ Ok row
-    on_below None found e = cc
-    on_below (Some r) found e = on_kind r.kind found e
-
 pub look_path : (tree : List Row) (path : Names) (row : Row) → look tree path ≡ Ok row → row.path ≡ path
-look_path tree path row e = look_from_path tree [] path row e
+look_path tree path row e = (row_at_in tree path row (look_there tree [] path row e)).1
 
 -- ---- what is left
 
-left_then : (path : Names) (w : World) (o : Option FileTime) → is_some o ≡ true → is_none (touched_at path o w) ≡ false
-left_then path w None e = cc
-left_then path w (Some t) e = refl
+tick_left : (path : Names) (w : World) (o : Option FileTime) → is_some o ≡ true → is_none (touched_at path o w) ≡ false
+tick_left path w None e = cc
+tick_left path w (Some t) e = refl
 
 dir_left : (b : Bool) (path : Names) (w : World) (o : Option FileTime) → b ≡ true → is_some (tick_after o) ≡ true → is_none (then_touched (parent_of path) (cond b (added_at path Dir o w) None)) ≡ false
 dir_left true path w None e f = cc
-dir_left true path w (Some t) e f = left_then (parent_of path) _ (tick t) f
+dir_left true path w (Some t) e f = tick_left (parent_of path) _ (tick t) f
 dir_left false path w o e f = cc
 
 dir_none : (b : Bool) (path : Names) (w : World) (o : Option FileTime) → (b && is_some (tick_after o)) ≡ false → is_none (then_touched (parent_of path) (cond b (added_at path Dir o w) None)) ≡ true
@@ -124,10 +99,6 @@ dir_is_left w path e = let t = and_parts (nat_lt w.greatest greatest) (is_some (
 pub dir_is_none : (w : World) (path : Names) → row_is_left w ≡ false → is_none (edited (makes path Dir []) w) ≡ true
 dir_is_none w path e = dir_none (nat_lt w.greatest greatest) path w (tick w.latest) e
 
-tick_left : (path : Names) (w : World) (o : Option FileTime) → is_some o ≡ true → is_none (touched_at path o w) ≡ false
-tick_left path w None e = cc
-tick_left path w (Some t) e = refl
-
 tick_none : (path : Names) (w : World) (o : Option FileTime) → is_some o ≡ false → is_none (touched_at path o w) ≡ true
 tick_none path w None e = refl
 tick_none path w (Some t) e = cc
@@ -135,7 +106,7 @@ tick_none path w (Some t) e = cc
 file_left : (b : Bool) (path : Names) (bytes : List ℕ) (w : World) (o : Option FileTime) → b ≡ true → is_some (tick_after o) ≡ true
     → is_none (then_touched (parent_of path) (stored_in bytes (cond b (added_at path File o w) None))) ≡ false
 file_left true path bytes w None e f = cc
-file_left true path bytes w (Some t) e f = left_then (parent_of path) _ (tick t) f
+file_left true path bytes w (Some t) e f = tick_left (parent_of path) _ (tick t) f
 file_left false path bytes w o e f = cc
 
 -- or a file
@@ -208,7 +179,7 @@ file_goes false row x e = refl
 
 no_file_root : (tree : List Row) (path : Names) (row : Row) → is_tree tree ≡ true → look tree path ≡ Ok row → is_dir row.kind ≡ false → (b : Bool) → (length path == 0) ≡ b → b ≡ false
 no_file_root tree path row whole found file true e =
-    let top : has_dir tree [] ≡ true = (parts_of tree whole).root in
+    let top : has_dir tree [] ≡ true = (tree_parts tree whole).root in
     let root : path ≡ [] = no_names path e in
     let at : look tree [] ≡ Ok row = ap (look tree) (sym root) ∙ found in
     absurd (not_both (is_dir row.kind) (root_dir (row_at tree []) row top at) file)
@@ -322,8 +293,8 @@ may_by w row from to e (Ok there) at found here h =
       row = row;
       found = found;
       here = here;
-      goes = both (not (length row.path == 0)) _ (ap not t.from) (both (not (length to == 0)) _ (ap not t.to) (both (not (is_front row.path to)) _ (ap not t.into)
-          (both (has_dir w.tree (parent_of to)) _ f.above y)));
+      goes = and_from (not (length row.path == 0)) _ (ap not t.from) (and_from (not (length to == 0)) _ (ap not t.to) (and_from (not (is_front row.path to)) _ (ap not t.into)
+          (and_from (has_dir w.tree (parent_of to)) _ f.above y)));
     }
 
 pub may_move_of : (w : World) (from to : Names) (e : Edit) → moving w.tree from to ≡ Ok (Some e) → MayMove w from to
@@ -333,7 +304,7 @@ may_move_of w from to e h =
 
 then_left : (p q : Names) (w m : World) (o : Option FileTime) → is_some (tick_after o) ≡ true → is_none (then_touched q (touched_at p o m)) ≡ false
 then_left p q w m None e = cc
-then_left p q w m (Some t) e = left_then q _ (tick t) e
+then_left p q w m (Some t) e = tick_left q _ (tick t) e
 
 then_none : (p q : Names) (w m : World) (o : Option FileTime) → is_some (tick_after o) ≡ false → is_none (then_touched q (touched_at p o m)) ≡ true
 then_none p q w m None e = refl

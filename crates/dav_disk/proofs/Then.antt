@@ -2,14 +2,11 @@
 use Rattle.std.proofs.Common.{◌≡◌, ◌≤◌, ◌<◌, ◌==◌, ◌+◌, ◌⊎◌, ℕ, List, Bool, true, false, cond, length, take, Option, None, Some, Result, Ok, Err, IsErrOf, IfOk, IfErr, OnErr, inl, inr, refl, sym, ap, ◌∙◌, arith}
 use Rattle.std.specs.Option.{option_map, is_none}
 use Rattle.std.proofs.lemmas.List.{take_all}
-use Rattle.dav_core.specs.declared.time.FileTime.{FileTime}
-use Rattle.dav_core.specs.declared.tree.Kind.{Kind}
 use Rattle.dav_core.specs.declared.handle.DiskError.{DiskError}
 use Rattle.dav_core.specs.declared.handle.DiskError.TheVariants.{NotFound, Exists, NotDir, IsDir, NotEmpty, Failed, NoMemory}
-use Rattle.dav_core.specs.Path.{Names}
 use Rattle.dav_core.specs.World.{World, OpenFile, Holds, SameBesidesOpens, AreGiven, put, bytes_of}
 use Rattle.dav_core.specs.Disk.{with_opens, placed}
-use Rattle.dav_core.specs.Edits.{Edit, makes, fills, takes, moves, Edited, EditedBy, IsNew, Becomes, SameOpens}
+use Rattle.dav_core.specs.Edits.{Edit, fills, Edited, EditedBy, SameOpens}
 use Rattle.dav_core.specs.Writing.{Writes, WrittenIn, WroteIn, MayRefuseWrite, can_write, appends, written, write_place}
 use Rattle.dav_core.proofs.UnchangedLemmas.{same_besides, same_besides_then}
 use Rattle.dav_disk.specs.Calls.{Known, state_of, lengths, with_place}
@@ -17,38 +14,11 @@ use Rattle.dav_disk.specs.Making.{MakesAt, WritesAt, writing, writing_at, is_spe
 use Rattle.dav_disk.proofs.Edited.{edited_is, edited_opens}
 use Rattle.dav_disk.specs.Failing.{UnlessFault}
 use Rattle.dav_disk.proofs.Makes.{Noted, is_counted, unless_fault}
+use Rattle.dav_core.proofs.EditsLemmas.{edit_then}
+use Rattle.std.proofs.lemmas.Bool.{both_ways}
 
 abbrev Given : World → Type 0
 Given w = AreGiven w.tree w.files w.opens w.greatest w.latest
-
-becomes_then : (v x m w : World) → Becomes v x m → SameBesidesOpens m w → Becomes v x w
-becomes_then v x m w b s = record {
-  tree = s.tree ∙ b.tree;
-  files = λ number held.
-      (let (there, same) = s.files number held in
-      let (before, made) = b.files number there in
-      (before, same ∙ made));
-  script = s.script ∙ b.script;
-  greatest = (let g = s.greatest in let h = b.greatest in omega arith);
-  latest = rw s.latest b.latest;
-}
-
-new_then : (v : World) (t : FileTime) (m w : World) → IsNew v t m → SameBesidesOpens m w → IsNew v t w
-new_then v t m w n s = record { later = n.later; used = rw s.latest n.used; nanos = n.nanos }
-
-pub fills_then : (number : ℕ) (bytes : List ℕ) (v m w : World) → Edited (fills number bytes) v m → SameBesidesOpens m w → Edited (fills number bytes) v w
-fills_then number bytes v m w (inl e) s = inl (e.0, same_besides_then v m w e.1 s)
-fills_then number bytes v m w (inr e) s = inr (e.0, e.1, new_then v e.1 m w e.2 s, becomes_then v _ m w e.3 s)
-
-pub makes_then : (path : Names) (kind : Kind) (bytes : List ℕ) (v m w : World) → Edited (makes path kind bytes) v m → SameBesidesOpens m w → Edited (makes path kind bytes) v w
-makes_then path kind bytes v m w (number, t, u, next, new, touched, b) s =
-    (number, t, u, record { above = next.above; used = (let g = s.greatest in let h = next.used in omega arith) }, new_then v t m w new s, new_then v u m w touched s, becomes_then v _ m w b s)
-
-edit_then : (edit : Edit) (v m w : World) → Edited edit v m → SameBesidesOpens m w → Edited edit v w
-edit_then (makes path kind bytes) v m w e s = makes_then path kind bytes v m w e s
-edit_then (fills number bytes) v m w e s = fills_then number bytes v m w e s
-edit_then (takes path) v m w (t, new, b) s = (t, new_then v t m w new s, becomes_then v _ m w b s)
-edit_then (moves from to) v m w (t, u, new, more, b) s = (t, u, new_then v t m w new s, new_then v u m w more s, becomes_then v _ m w b s)
 
 pub edited_then : (edit : Option Edit) (v m w : World) → EditedBy edit v m → SameBesidesOpens m w → EditedBy edit v w
 edited_then None v m w e s = same_besides_then v m w e s
@@ -82,7 +52,7 @@ wrote k n h from count given some (all, o, at, can, m, made, e) =
     let there : m.opens h ≡ Some o = ap (λ (t : ℕ → Option OpenFile). t h) opens.opens ∙ at in
     let w : World = placed m h o (place + count) in
     let beside : SameBesidesOpens m w = put_besides m h (Some (record o { place = place + count })) (λ number f. inr (h, ap (option_map (λ (o : OpenFile). o.number)) there ∙ f)) in
-    let edited_to : Edited edit k.world w = fills_then o.number (written place from (bytes_of k.world o.number)) k.world m w (edited_is edit k.world m given made) beside in
+    let edited_to : Edited edit k.world w = edit_then edit k.world m w (edited_is edit k.world m given made) beside in
     let whole : take count from ≡ from = ap (λ c. take c from) all ∙ take_all (length from) from (omega arith) in
     let world : n.world ≡ w = ap (λ (n : Known). n.world) e in (
       o,
@@ -188,17 +158,14 @@ write_fails k n h from (Err Exists) w f = absurd w
 write_fails k n h from (Err NotDir) w f = absurd w
 write_fails k n h from (Err NotEmpty) w f = absurd w
 
-not_both : (b : Bool) → b ≡ false → b ≡ true → ⊥
-not_both b f t = let e : false ≡ true = sym f ∙ t in cc
-
 pub fails_write : (k n : Known) (h : ℕ) (from : List ℕ) (result : Result ℕ DiskError) → WritesAt k h from result n → is_spent (writing k h from) k.world ≡ true → IsErrOf result Failed
 fails_write k n h from (Ok count) (all, o, at, can, m, made, e) spent =
     let edit : Edit = fills o.number (written (write_place (appends (k.live h)) k.world o) from (bytes_of k.world o.number)) in
     let judged : writing k h from ≡ Ok (Some edit) = ap (λ x. writing_at x (k.live h) k.world from) at ∙ ap (λ b. cond b (Ok (Some edit)) (Err IsDir)) can in
-    absurd (not_both (is_spent (writing k h from) k.world) (ap (λ a. is_spent a k.world) judged ∙ ap is_none made) spent)
+    absurd (both_ways (is_spent (writing k h from) k.world) (ap (λ a. is_spent a k.world) judged ∙ ap is_none made) spent)
 fails_write k n h from (Err Failed) w spent = refl
-fails_write k n h from (Err NoMemory) w spent = absurd (not_both (is_spent (writing k h from) k.world) w.2 spent)
-fails_write k n h from (Err IsDir) w spent = absurd (not_both (is_spent (writing k h from) k.world) (ap (λ a. is_spent a k.world) w.2) spent)
+fails_write k n h from (Err NoMemory) w spent = absurd (both_ways (is_spent (writing k h from) k.world) w.2 spent)
+fails_write k n h from (Err IsDir) w spent = absurd (both_ways (is_spent (writing k h from) k.world) (ap (λ a. is_spent a k.world) w.2) spent)
 fails_write k n h from (Err NotFound) w spent = absurd w
 fails_write k n h from (Err Exists) w spent = absurd w
 fails_write k n h from (Err NotDir) w spent = absurd w

@@ -5,11 +5,11 @@ use Rattle.dav_core.specs.declared.time.FileTime.{FileTime}
 use Rattle.dav_core.specs.Path.{Names, same_names}
 use Rattle.dav_core.specs.Changes.{timed_row}
 
-time_set : (b : Bool) (t : FileTime) (r : Row) → b ≡ true → record r { time = t } ≡ cond b (record r { time = t }) r
+pub time_set : (b : Bool) (t : FileTime) (r : Row) → b ≡ true → record r { time = t } ≡ cond b (record r { time = t }) r
 time_set true t r e = refl
 time_set false t r e = cc
 
-time_left : (b : Bool) (t : FileTime) (r : Row) → b ≡ false → cond b (record r { time = t }) r ≡ r
+pub time_left : (b : Bool) (t : FileTime) (r : Row) → b ≡ false → cond b (record r { time = t }) r ≡ r
 time_left true t r e = cc
 time_left false t r e = refl
 

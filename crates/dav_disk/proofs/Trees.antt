@@ -1,66 +1,40 @@
 -- Rows that stand in a list, and what keeps a list of rows a tree.
-use Rattle.std.proofs.Common.{◌≡◌, ◌≤◌, ◌==◌, ◌-◌, ◌&&◌, ◌⊎◌, ◌∷◌, [], ℕ, List, Bool, true, false, cond, not, length, take, map, min, Option, None, Some, inl, inr, refl, sym, ap, ◌∙◌, arith, length-take}
+use Rattle.std.proofs.Common.{◌≡◌, ◌≤◌, ◌==◌, ◌-◌, ◌&&◌, ◌⊎◌, ◌∷◌, [], List, Bool, true, false, cond, not, length, take, map, min, Option, None, Some, inl, inr, refl, sym, ap, ◌∙◌, arith, length-take}
 use Rattle.std.specs.List.{filter, list_all, AllByRecursion}
 use Rattle.std.specs.Option.{option_map, IfSome}
-use Rattle.std.specs.Bool.{Decides}
-use Rattle.std.proofs.lemmas.Bool.{and_parts}
+use Rattle.std.proofs.lemmas.Bool.{and_parts, not-true, not_from_false, eq-eqb, cases_Bool, and_from}
 use Rattle.std.proofs.lemmas.Bool.Decides.{nat_tests}
-use Rattle.std.proofs.lemmas.Slice.Eq.{slice_eq-Decides, bytes_eq-Decides}
 use Rattle.std.proofs.lemmas.List.{take-take}
 use Rattle.dav_core.specs.declared.tree.Row.{Row}
-use Rattle.dav_core.specs.declared.tree.Kind.{Kind}
-use Rattle.dav_core.specs.declared.tree.Kind.TheVariants.{Dir, File, Link}
+use Rattle.dav_core.specs.declared.tree.Kind.TheVariants.{Dir}
 use Rattle.dav_core.specs.Path.{Names, same_names, parent_of, is_front}
 use Rattle.dav_core.specs.Tree.{row_at, is_dir, is_dir_row, has_dir, is_placed, is_free, is_apart, is_tree}
-use Rattle.dav_disk.proofs.Added.{both}
+use Rattle.dav_core.proofs.Paths.{names_same, names_equal, names_differ, parent_length}
+use Rattle.dav_core.proofs.Elements.{In, all_at, all_in, in_map, map_in, in_filter, filter_in}
+use Rattle.dav_core.proofs.Rows.{row_at_in, in_row_at, dir_row, tree_parts, IsTree}
+use Rattle.std.proofs.lemmas.Option.{same_Some}
+use Rattle.dav_io.proofs.Cases.{second_test}
 
 -- ---- names
-
-names_decide : (a b : Names) → Decides (same_names a b) (a ≡ b)
-names_decide a b = slice_eq-Decides bytes_eq-Decides a b (same_names a b) refl
-
-pub same_yes : (a b : Names) → same_names a b ≡ true → a ≡ b
-same_yes a b = (names_decide a b).0
-
-pub same_refl : (a b : Names) → a ≡ b → same_names a b ≡ true
-same_refl a b = (names_decide a b).1
 
 pub not_both : (b : Bool) → b ≡ true → b ≡ false → ⊥
 not_both b e f = let t : true ≡ false = sym e ∙ f in cc
 
-pub false_or : (b : Bool) → (b ≡ true → ⊥) → b ≡ false
-false_or true h = absurd (h refl)
-false_or false h = refl
-
-pub not_same : (a b : Names) → (a ≡ b → ⊥) → same_names a b ≡ false
-not_same a b h = false_or (same_names a b) (λ e. h (same_yes a b e))
-
 pub differs : (a b : Names) → same_names a b ≡ false → a ≡ b → ⊥
-differs a b f e = not_both (same_names a b) (same_refl a b e) f
-
-pub not_true : (b : Bool) → not b ≡ true → b ≡ false
-not_true true e = cc
-not_true false e = refl
-
-pub not_false : (b : Bool) → b ≡ false → not b ≡ true
-not_false true e = cc
-not_false false e = refl
+differs a b f e = not_both (same_names a b) (names_equal a b e) f
 
 -- a path is the front of another
 abbrev pub IsFront : Names → Names → Type 0
 IsFront front path = front ≡ take (length front) path
 
 pub front_yes : (front path : Names) → is_front front path ≡ true → IsFront front path
-front_yes front path = same_yes front (take (length front) path)
+front_yes front path = names_same front (take (length front) path)
 
 pub front_no : (front path : Names) → (IsFront front path → ⊥) → is_front front path ≡ false
-front_no front path = not_same front (take (length front) path)
+front_no front path = names_differ front (take (length front) path)
 
 pub front_length : (front path : Names) → IsFront front path → length front ≤ length path
 front_length front path e = let l : length front ≡ min (length front) (length path) = simp length-take at (ap length e) in omega arith
-
-pub parent_length : (path : Names) → length (parent_of path) ≡ length path - 1
-parent_length path = simp length-take (omega arith)
 
 pub no_names : (path : Names) → (length path == 0) ≡ true → path ≡ []
 no_names [] e = refl
@@ -87,19 +61,6 @@ no_front_root path some e =
 
 -- ---- rows of a list
 
-abbrev pub In : Row → List Row → Type 0
-In r [] = ⊥
-In r (x ∷ xs) = (r ≡ x) ⊎ In r xs
-
-pub all_at : (q : Row → Bool) (xs : List Row) (r : Row) → list_all q xs ≡ true → In r xs → q r ≡ true
-all_at q [] r all i = absurd i
-all_at q (x ∷ xs) r all (inl e) = ap q e ∙ (and_parts (q x) (list_all q xs) all).0
-all_at q (x ∷ xs) r all (inr i) = all_at q xs r (and_parts (q x) (list_all q xs) all).1 i
-
-pub all_in : (q : Row → Bool) (xs : List Row) → ((r : Row) → In r xs → q r ≡ true) → list_all q xs ≡ true
-all_in q [] h = refl
-all_in q (x ∷ xs) h = both (q x) (list_all q xs) (h x (inl refl)) (all_in q xs (λ r i. h r (inr i)))
-
 pub each_at : (P : Row → Type 0) (xs : List Row) (r : Row) → AllByRecursion P xs → In r xs → P r
 each_at P [] r all i = absurd i
 each_at P (x ∷ xs) r all (inl e) = rw e all.0
@@ -109,81 +70,18 @@ pub each_in : (P : Row → Type 0) (xs : List Row) → ((r : Row) → In r xs �
 each_in P [] h = tt
 each_in P (x ∷ xs) h = (h x (inl refl), each_in P xs (λ r i. h r (inr i)))
 
-pub in_map : (f : Row → Row) (xs : List Row) (y : Row) → In y (map f xs) → (x : Row) × In x xs × (y ≡ f x)
-in_map f [] y i = absurd i
-in_map f (x ∷ xs) y (inl e) = (x, inl refl, e)
-in_map f (x ∷ xs) y (inr i) = let t = in_map f xs y i in (t.0, inr t.1, t.2)
-
-pub map_in : (f : Row → Row) (xs : List Row) (x : Row) → In x xs → In (f x) (map f xs)
-map_in f [] x i = absurd i
-map_in f (y ∷ xs) x (inl e) = inl (ap f e)
-map_in f (y ∷ xs) x (inr i) = inr (map_in f xs x i)
-
-in_kept : (b : Bool) (x y : Row) (ys xs : List Row) (keep : Row → Bool) → b ≡ keep x → (In y ys → In y xs × (keep y ≡ true)) → In y (cond b (x ∷ ys) ys) → In y (x ∷ xs) × (keep y ≡ true)
-in_kept true x y ys xs keep b h (inl e) = (inl e, ap keep e ∙ sym b)
-in_kept true x y ys xs keep b h (inr i) = let t = h i in (inr t.0, t.1)
-in_kept false x y ys xs keep b h i = let t = h i in (inr t.0, t.1)
-
-pub in_filter : (keep : Row → Bool) (xs : List Row) (y : Row) → In y (filter keep xs) → In y xs × (keep y ≡ true)
-in_filter keep [] y i = absurd i
-in_filter keep (x ∷ xs) y i = in_kept (keep x) x y (filter keep xs) xs keep refl (in_filter keep xs y) i
-
-kept_in : (b : Bool) (x y : Row) (ys : List Row) (keep : Row → Bool) → b ≡ keep x → keep y ≡ true → (y ≡ x) ⊎ In y ys → In y (cond b (x ∷ ys) ys)
-kept_in true x y ys keep b k (inl e) = inl e
-kept_in true x y ys keep b k (inr i) = inr i
-kept_in false x y ys keep b k (inl e) = absurd (not_both (keep x) (ap keep (sym e) ∙ k) (sym b))
-kept_in false x y ys keep b k (inr i) = i
-
-in_or : (x y : Row) (xs ys : List Row) → (In y xs → In y ys) → In y (x ∷ xs) → (y ≡ x) ⊎ In y ys
-in_or x y xs ys h (inl e) = inl e
-in_or x y xs ys h (inr i) = inr (h i)
-
-pub filter_in : (keep : Row → Bool) (xs : List Row) (y : Row) → keep y ≡ true → In y xs → In y (filter keep xs)
-filter_in keep [] y k i = absurd i
-filter_in keep (x ∷ xs) y k i = kept_in (keep x) x y (filter keep xs) keep refl k (in_or x y xs (filter keep xs) (filter_in keep xs y k) i)
-
 -- ---- rows that are found
-
-find_step : (b : Bool) (x r : Row) (o : Option Row) (xs : List Row) (path : Names) → (b ≡ true → path ≡ x.path) → (o ≡ Some r → In r xs × (path ≡ r.path)) → cond b (Some x) o ≡ Some r
-    → In r (x ∷ xs) × (path ≡ r.path)
-find_step true x r o xs path h g e = let same : r ≡ x = cc in (inl same, h refl ∙ ap (λ (r : Row). r.path) (sym same))
-find_step false x r o xs path h g e = let t = g e in (inr t.0, t.1)
-
-pub find_in : (rows : List Row) (path : Names) (r : Row) → row_at rows path ≡ Some r → In r rows × (path ≡ r.path)
-find_in [] path r e = cc
-find_in (x ∷ xs) path r e = find_step (same_names path x.path) x r (row_at xs path) xs path (same_yes path x.path) (find_in xs path r) e
-
-found_here : (b : Bool) (x r : Row) (o : Option Row) → b ≡ true → r ≡ x → cond b (Some x) o ≡ Some r
-found_here true x r o e same = ap Some (sym same)
-found_here false x r o e same = cc
-
-found_later : (b : Bool) (x r : Row) (o : Option Row) → b ≡ false → o ≡ Some r → cond b (Some x) o ≡ Some r
-found_later true x r o e f = cc
-found_later false x r o e f = f
 
 -- a row that is apart from another
 pub apart_from : (x r : Row) → (not (same_names r.path x.path) && not (r.number == x.number)) ≡ true → (same_names r.path x.path ≡ false) × ((r.number == x.number) ≡ false)
-apart_from x r e = let t = and_parts (not (same_names r.path x.path)) (not (r.number == x.number)) e in (not_true (same_names r.path x.path) t.0, not_true (r.number == x.number) t.1)
+apart_from x r e = let t = and_parts (not (same_names r.path x.path)) (not (r.number == x.number)) e in (not-true (same_names r.path x.path) t.0, not-true (r.number == x.number) t.1)
 
 pub free_at : (x : Row) (xs : List Row) (r : Row) → is_free xs x ≡ true → In r xs → (same_names r.path x.path ≡ false) × ((r.number == x.number) ≡ false)
-free_at x xs r free i = apart_from x r (all_at (λ other. not (same_names other.path x.path) && not (other.number == x.number)) xs r free i)
-
-pub in_find : (rows : List Row) (r : Row) → is_apart rows ≡ true → In r rows → row_at rows r.path ≡ Some r
-in_find [] r apart i = absurd i
-in_find (x ∷ xs) r apart (inl e) = found_here (same_names r.path x.path) x r (row_at xs r.path) (same_refl r.path x.path (ap (λ (r : Row). r.path) e)) e
-in_find (x ∷ xs) r apart (inr i) =
-    let t = and_parts (is_free xs x) (is_apart xs) apart in
-    found_later (same_names r.path x.path) x r (row_at xs r.path) (free_at x xs r t.0 i).0 (in_find xs r t.1 i)
-
-same_some : (r s : Row) → Some r ≡ Some s → r ≡ s
-same_some r s e = cc
+free_at x xs r free i = apart_from x r (all_at (λ (other : Row). not (same_names other.path x.path) && not (other.number == x.number)) xs r free i)
 
 -- no path stands twice
 pub only_row : (rows : List Row) (r s : Row) → is_apart rows ≡ true → In r rows → In s rows → r.path ≡ s.path → r ≡ s
-only_row rows r s apart i j e = same_some r s (sym (in_find rows r apart i) ∙ ap (row_at rows) e ∙ in_find rows s apart j)
-
-equal_numbers : (n m : ℕ) → n ≡ m → (n == m) ≡ true
-equal_numbers n m e = grind (arith, nat_tests)
+only_row rows r s apart i j e = same_Some r s (sym (in_row_at rows r apart i) ∙ ap (row_at rows) e ∙ in_row_at rows s apart j)
 
 -- no number stands twice
 pub only_number : (rows : List Row) (r s : Row) → is_apart rows ≡ true → In r rows → In s rows → r.number ≡ s.number → r ≡ s
@@ -191,58 +89,34 @@ only_number [] r s apart i j e = absurd i
 only_number (x ∷ xs) r s apart (inl i) (inl j) e = i ∙ sym j
 only_number (x ∷ xs) r s apart (inl i) (inr j) e =
     let t = and_parts (is_free xs x) (is_apart xs) apart in
-    absurd (not_both (s.number == x.number) (equal_numbers s.number x.number (sym e ∙ ap (λ (r : Row). r.number) i)) (free_at x xs s t.0 j).1)
+    absurd (not_both (s.number == x.number) (eq-eqb s.number x.number (sym e ∙ ap (λ (r : Row). r.number) i)) (free_at x xs s t.0 j).1)
 only_number (x ∷ xs) r s apart (inr i) (inl j) e =
     let t = and_parts (is_free xs x) (is_apart xs) apart in
-    absurd (not_both (r.number == x.number) (equal_numbers r.number x.number (e ∙ ap (λ (r : Row). r.number) j)) (free_at x xs r t.0 i).1)
+    absurd (not_both (r.number == x.number) (eq-eqb r.number x.number (e ∙ ap (λ (r : Row). r.number) j)) (free_at x xs r t.0 i).1)
 only_number (x ∷ xs) r s apart (inr i) (inr j) e = only_number xs r s (and_parts (is_free xs x) (is_apart xs) apart).1 i j e
-
-dir_kind : (k : Kind) → is_dir k ≡ true → k ≡ Dir
-dir_kind Dir e = refl
-dir_kind File e = cc
-dir_kind Link e = cc
-
-dir_row : (o : Option Row) → is_dir_row o ≡ true → (d : Row) × (o ≡ Some d) × (d.kind ≡ Dir)
-dir_row None e = cc
-dir_row (Some d) e = (d, refl, dir_kind d.kind e)
 
 -- the directory at a path
 pub dir_at : (rows : List Row) (path : Names) → has_dir rows path ≡ true → (d : Row) × In d rows × (d.path ≡ path) × (d.kind ≡ Dir)
-dir_at rows path e = let (d, at, kind) = dir_row (row_at rows path) e in let t = find_in rows path d at in (d, t.0, sym t.1, kind)
+dir_at rows path e = let (d, at, kind) = dir_row (row_at rows path) e in let t = row_at_in rows path d at in (d, t.0, t.1, kind)
 
 pub dir_stands : (rows : List Row) (d : Row) (path : Names) → is_apart rows ≡ true → In d rows → d.kind ≡ Dir → d.path ≡ path → has_dir rows path ≡ true
-dir_stands rows d path apart i kind e = ap (λ p. is_dir_row (row_at rows p)) (sym e) ∙ ap is_dir_row (in_find rows d apart i) ∙ ap is_dir kind
+dir_stands rows d path apart i kind e = ap (λ p. is_dir_row (row_at rows p)) (sym e) ∙ ap is_dir_row (in_row_at rows d apart i) ∙ ap is_dir kind
 
 -- ---- the parts of a tree
 
-pub record Parts (rows : List Row) : Type 0 where
-  pub root : has_dir rows [] ≡ true
-  pub placed : list_all (is_placed rows) rows ≡ true
-  pub apart : is_apart rows ≡ true
-
-pub parts_of : (rows : List Row) → is_tree rows ≡ true → Parts rows
-parts_of rows e =
-    let t = and_parts (has_dir rows []) (list_all (is_placed rows) rows && is_apart rows) e in
-    let u = and_parts (list_all (is_placed rows) rows) (is_apart rows) t.1 in
-    record { root = t.0; placed = u.0; apart = u.1 }
-
-pub tree_of : (rows : List Row) → Parts rows → is_tree rows ≡ true
-tree_of rows p = both (has_dir rows []) (list_all (is_placed rows) rows && is_apart rows) p.root (both (list_all (is_placed rows) rows) (is_apart rows) p.placed p.apart)
+pub tree_of : (rows : List Row) → IsTree rows → is_tree rows ≡ true
+tree_of rows p = and_from (has_dir rows []) (list_all (is_placed rows) rows && is_apart rows) p.root (and_from (list_all (is_placed rows) rows) (is_apart rows) p.placed p.apart)
 
 at_root : (b x y : Bool) → b ≡ true → cond b x y ≡ true → x ≡ true
 at_root true x y e f = f
 at_root false x y e f = cc
 
-below_root : (b x y : Bool) → b ≡ false → cond b x y ≡ true → y ≡ true
-below_root true x y e f = cc
-below_root false x y e f = f
-
 -- the directory above a row
-pub parent_row : (rows : List Row) (r : Row) → Parts rows → In r rows → (length r.path == 0) ≡ false → (d : Row) × In d rows × (d.path ≡ parent_of r.path) × (d.kind ≡ Dir)
+pub parent_row : (rows : List Row) (r : Row) → IsTree rows → In r rows → (length r.path == 0) ≡ false → (d : Row) × In d rows × (d.path ≡ parent_of r.path) × (d.kind ≡ Dir)
 parent_row rows r p i some =
-    dir_at rows (parent_of r.path) (below_root (length r.path == 0) (is_dir r.kind) (has_dir rows (parent_of r.path)) some (all_at (is_placed rows) rows r p.placed i))
+    dir_at rows (parent_of r.path) (second_test (length r.path == 0) (is_dir r.kind) (has_dir rows (parent_of r.path)) some (all_at (is_placed rows) rows r p.placed i))
 
-pub root_dir : (rows : List Row) (r : Row) → Parts rows → In r rows → (length r.path == 0) ≡ true → is_dir r.kind ≡ true
+pub root_dir : (rows : List Row) (r : Row) → IsTree rows → In r rows → (length r.path == 0) ≡ true → is_dir r.kind ≡ true
 root_dir rows r p i none = at_root (length r.path == 0) (is_dir r.kind) (has_dir rows (parent_of r.path)) none (all_at (is_placed rows) rows r p.placed i)
 
 placed_by : (b x y : Bool) → (b ≡ true → x ≡ true) → (b ≡ false → y ≡ true) → cond b x y ≡ true
@@ -250,12 +124,12 @@ placed_by true x y h g = h refl
 placed_by false x y h g = g refl
 
 apart_by : (x r : Row) → (r.path ≡ x.path → ⊥) → (r.number == x.number) ≡ false → (not (same_names r.path x.path) && not (r.number == x.number)) ≡ true
-apart_by x r h n = both (not (same_names r.path x.path)) (not (r.number == x.number)) (not_false (same_names r.path x.path) (not_same r.path x.path h)) (not_false (r.number == x.number) n)
+apart_by x r h n = and_from (not (same_names r.path x.path)) (not (r.number == x.number)) (not_from_false (same_names r.path x.path) (names_differ r.path x.path h)) (not_from_false (r.number == x.number) n)
 
 -- ---- rows that are taken away
 
 kept_apart : (keep : Row → Bool) (b : Bool) (x : Row) (xs : List Row) → is_free (filter keep xs) x ≡ true → is_apart (filter keep xs) ≡ true → is_apart (cond b (x ∷ filter keep xs) (filter keep xs)) ≡ true
-kept_apart keep true x xs free apart = both (is_free (filter keep xs) x) (is_apart (filter keep xs)) free apart
+kept_apart keep true x xs free apart = and_from (is_free (filter keep xs) x) (is_apart (filter keep xs)) free apart
 kept_apart keep false x xs free apart = apart
 
 filtered_apart : (keep : Row → Bool) (rows : List Row) → is_apart rows ≡ true → is_apart (filter keep rows) ≡ true
@@ -270,7 +144,7 @@ filtered_apart keep (x ∷ xs) apart =
 pub filtered_tree : (rows : List Row) (keep : Row → Bool) → is_tree rows ≡ true → ((r : Row) → r.path ≡ [] → keep r ≡ true)
     → ((r d : Row) → keep r ≡ true → d.path ≡ parent_of r.path → keep d ≡ true) → is_tree (filter keep rows) ≡ true
 filtered_tree rows keep tree root parent =
-    let p = parts_of rows tree in
+    let p = tree_parts rows tree in
     let apart = filtered_apart keep rows p.apart in
     let top = dir_at rows [] p.root in
     tree_of (filter keep rows) (record {
@@ -296,7 +170,7 @@ pub record Maps (rows : List Row) (f : Row → Row) : Type 0 where
 
 mapped_free : (f : Row → Row) (x : Row) (xs : List Row) → ((r : Row) → (f r).number ≡ r.number) → ((r : Row) → In r xs → (f r).path ≡ (f x).path → r.path ≡ x.path) → is_free xs x ≡ true → is_free (map f xs) (f x) ≡ true
 mapped_free f x xs number paths free =
-    all_in (λ other. not (same_names other.path (f x).path) && not (other.number == (f x).number)) (map f xs) (λ y i.
+    all_in (λ (other : Row). not (same_names other.path (f x).path) && not (other.number == (f x).number)) (map f xs) (λ y i.
     let (r, at, e) = in_map f xs y i in
     let t = free_at x xs r free at in
     rw e (apart_by (f x) (f r) (λ same. differs r.path x.path t.0 (paths r at same)) (rw (number r, number x) t.1)))
@@ -306,31 +180,27 @@ mapped_apart : (f : Row → Row) (rows : List Row) → ((r : Row) → (f r).numb
 mapped_apart f [] number paths apart = refl
 mapped_apart f (x ∷ xs) number paths apart =
     let t = and_parts (is_free xs x) (is_apart xs) apart in
-    both (is_free (map f xs) (f x)) (is_apart (map f xs))
+    and_from (is_free (map f xs) (f x)) (is_apart (map f xs))
     (mapped_free f x xs number (λ r i. paths r x (inr i) (inl refl)) t.0)
     (mapped_apart f xs number (λ r s i j. paths r s (inr i) (inr j)) t.1)
-
-pub none_or_some : (b : Bool) → (b ≡ true) ⊎ (b ≡ false)
-none_or_some true = inl refl
-none_or_some false = inr refl
 
 still_root : (f : Row → Row) (r : Row) → ((r : Row) → r.path ≡ [] → (f r).path ≡ []) → (length r.path == 0) ≡ true → (length (f r).path == 0) ≡ true
 still_root f r root none = let empty = no_names r.path none in ap (λ (p : Names). length p == 0) (root r empty)
 
-placed_case : (rows : List Row) (f : Row → Row) (r : Row) → Maps rows f → Parts rows → is_apart (map f rows) ≡ true → In r rows → (length (f r).path == 0) ≡ false
+placed_case : (rows : List Row) (f : Row → Row) (r : Row) → Maps rows f → IsTree rows → is_apart (map f rows) ≡ true → In r rows → (length (f r).path == 0) ≡ false
     → ((length r.path == 0) ≡ true) ⊎ ((length r.path == 0) ≡ false) → has_dir (map f rows) (parent_of (f r).path) ≡ true
 placed_case rows f r m p apart i some (inl none) = absurd (not_both (length (f r).path == 0) (still_root f r m.root none) some)
 placed_case rows f r m p apart i some (inr more) =
     let d = m.parent r i more in
     dir_stands (map f rows) (f d.0) (parent_of (f r).path) apart (map_in f rows d.0 d.1) (m.kind d.0 ∙ d.2) d.3
 
-placed_below : (rows : List Row) (f : Row → Row) (r : Row) → Maps rows f → Parts rows → is_apart (map f rows) ≡ true → In r rows → (length (f r).path == 0) ≡ false
+placed_below : (rows : List Row) (f : Row → Row) (r : Row) → Maps rows f → IsTree rows → is_apart (map f rows) ≡ true → In r rows → (length (f r).path == 0) ≡ false
     → has_dir (map f rows) (parent_of (f r).path) ≡ true
-placed_below rows f r m p apart i some = placed_case rows f r m p apart i some (none_or_some (length r.path == 0))
+placed_below rows f r m p apart i some = placed_case rows f r m p apart i some (cases_Bool (length r.path == 0))
 
 pub mapped_tree : (rows : List Row) (f : Row → Row) → is_tree rows ≡ true → Maps rows f → is_tree (map f rows) ≡ true
 mapped_tree rows f tree m =
-    let p = parts_of rows tree in
+    let p = tree_parts rows tree in
     let apart = mapped_apart f rows m.number m.apart p.apart in
     let top = dir_at rows [] p.root in
     tree_of (map f rows) (record {
@@ -346,4 +216,4 @@ mapped_tree rows f tree m =
 -- what is found at a path has the path
 pub found_path : {B : Type 0} (now : B → Row) (rows : List Row) (path : Names) (o : Option B) → option_map now o ≡ row_at rows path → IfSome o (λ b. (now b).path ≡ path)
 found_path now rows path None e = tt
-found_path now rows path (Some b) e = sym (find_in rows path (now b) (sym e)).1
+found_path now rows path (Some b) e = (row_at_in rows path (now b) (sym e)).1

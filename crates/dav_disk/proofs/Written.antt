@@ -2,26 +2,21 @@
 use Rattle.std.proofs.Common.{◌≡◌, ◌≤◌, ◌<◌, ◌+◌, ◌-◌, ◌++◌, ℕ, List, Bool, true, false, length, take, drop, replicate, min, nat_lt, refl, sym, ap, ◌∙◌, arith, length-append, length-take, length-drop, take-append-drop, append_assoc}
 use Rattle.std.specs.Str.{bytes_eq}
 use Rattle.std.specs.Bool.{Decides}
-use Rattle.std.proofs.lemmas.Bool.Decides.{nat_tests, same_from_decides}
+use Rattle.std.proofs.lemmas.Bool.Decides.{same_from_decides}
 use Rattle.std.proofs.lemmas.List.{take_all, length-replicate, length-take-le, drop-drop}
 use Rattle.std.proofs.lemmas.Slice.Eq.{bytes_eq-Decides}
 use Rattle.std.proofs.Math.Seq.{take-append_seam, drop-append_seam}
 use Rattle.dav_core.specs.Changes.{resized}
 use Rattle.dav_core.specs.Writing.{written}
-
-below : (a b : ℕ) → nat_lt a b ≡ true → a < b
-below a b e = grind (arith, nat_tests)
-
-not_below : (a b : ℕ) → nat_lt a b ≡ false → b ≤ a
-not_below a b e = grind (arith, nat_tests)
+use Rattle.std.proofs.lemmas.Bool.{ltb-true, ltb-false}
 
 front_by : (test : Bool) (front place : ℕ) (bytes : List ℕ) → front ≡ min place (length bytes) → nat_lt place (length bytes) ≡ test → take front bytes ≡ take place bytes
 front_by true front place bytes e f =
-    let lt = below place (length bytes) f in
+    let lt = ltb-true place (length bytes) f in
     let same : front ≡ place = omega arith in
     ap (λ n. take n bytes) same
 front_by false front place bytes e f =
-    let le = not_below place (length bytes) f in
+    let le = ltb-false place (length bytes) f in
     let all : length bytes ≤ front = omega arith in
     take_all front bytes all ∙ sym (take_all place bytes le)
 

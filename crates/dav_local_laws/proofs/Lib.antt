@@ -2,6 +2,8 @@ pub mod DirNames
 pub mod LocalListings
 pub mod LocalLearns
 pub mod LocalUsual
+pub mod LocalRefusals
+pub mod RuledReads
 pub mod LocalReads
 pub mod LocalAsks
 pub mod PlainLooks

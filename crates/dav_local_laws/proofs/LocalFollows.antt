@@ -63,7 +63,7 @@ use Rattle.dav_local_laws.proofs.LocalLooks.{Besides, besides_same, besides_then
 use Rattle.dav_local_laws.proofs.PlainLooks.{both_with}
 use Rattle.dav_local_laws.proofs.ReachedCounts.{reached_counts}
 use Rattle.dav_local_laws.proofs.TreeLooks.{dir_listed}
-use Rattle.dav_local_laws.proofs.LocalReads.{no_links}
+use Rattle.dav_local_laws.proofs.RuledReads.{no_links}
 use Rattle.dav_local_laws.specs.LocalStore.{IsLocalStore, place}
 use Rattle.dav_local_laws.proofs.LocalLeads.{calls_remain}
 use Rattle.dav_local_laws.proofs.LocalMoves.{move_told}

@@ -46,7 +46,7 @@ use Rattle.dav_local_laws.specs.LocalStore.{IsLocalStore, place}
 use Rattle.dav_local_laws.specs.Ruled.{FindsOnce, HasFreeMembers, IsFree, IsOfRules, members_in, opened_in}
 use Rattle.dav_local_laws.proofs.LocalListings.{lists_local, next_ways}
 use Rattle.dav_local_laws.proofs.LocalLooks.{Besides, besides_same, besides_then, look_at_link_told, look_told}
-use Rattle.dav_local_laws.proofs.LocalReads.{begins_still, members_still, opened_still}
+use Rattle.dav_local_laws.proofs.RuledReads.{begins_still, members_still, opened_still}
 
 -- the members of a directory that can be listed
 members_ok : (w : World) (dir : Names) (stands : Result Row DiskError) (all : List Member) → members_or w dir stands ≡ Ok all → members w dir ≡ all

@@ -3,3 +3,4 @@ pub mod Ruled
 pub mod LocalStore
 pub mod Sealed
 pub mod Loosely
+pub mod ReadsByRules

@@ -1,11 +1,12 @@
 -- A copy while it is made: what is done, inside the elements that are open.
-use Rattle.std.proofs.Common.{◌≡◌, ℕ, ◌+◌, ◌-◌, ◌<◌, List, [], ◌∷◌, ◌++◌, length, take, refl, sym, ap, ◌∙◌, subst, arith}
+use Rattle.std.proofs.Common.{◌≡◌, ℕ, ◌+◌, ◌<◌, List, [], ◌∷◌, ◌++◌, refl, sym, ap, ◌∙◌, subst, arith}
 use Rattle.dav_lock.specs.Forests.{Forest, bare, then, Tree, element, joined}
 use Rattle.dav_lock.specs.Trees.{tree_of, forest_of}
 use Rattle.dav_lock.specs.declared.element.Element.{Element as ElementValue}
 use Rattle.dav_lock.specs.declared.element.XmlNode.{XmlNode}
 use Rattle.dav_lock.specs.declared.copying.Open.{Open}
 use Rattle.dav_lock.proofs.Weights.{weight}
+use Rattle.dav_lock.proofs.Opened.{left_at, left_at-append}
 
 -- an element with other children
 abbrev pub around : ElementValue → Forest → Tree
@@ -56,25 +57,12 @@ all_done all d f left closed none h =
     sym (joined-bare d) ∙ subst (λ (ps : List Open). held ps (joined d bare) ≡ f) closed (subst (λ (xs : List XmlNode). held all (joined d (forest_of xs)) ≡ f) none h)
 
 -- what is left to do behind the open elements, and to close them
-abbrev pub open_weight : List Open → ℕ
-open_weight [] = 0
-open_weight (o ∷ os) = 1 + weight (forest_of o.behind.now) + open_weight os
+abbrev pub weight_behind : Open → ℕ
+weight_behind o = weight (forest_of o.behind.now)
 
-pub open_weight-append : (os : List Open) (o : Open) → open_weight (os ++ o ∷ []) ≡ open_weight os + (1 + weight (forest_of o.behind.now))
-open_weight-append [] o = omega arith
-open_weight-append (p ∷ os) o = omega (arith, open_weight-append os o)
+abbrev pub open_weight : List Open → ℕ
+open_weight os = left_at weight_behind os
 
 pub opens_less : (os all : List Open) (o : Open) (children : Forest) (left : List XmlNode) (x : XmlNode) → all ≡ os ++ o ∷ []
     → left ≡ x ∷ o.behind.now → tree_of x ≡ around o.element children → open_weight all + weight children < open_weight os + weight (forest_of left)
-opens_less os all o children left x pushed step is = rw (pushed, step, is) (omega (arith, open_weight-append os o))
-
-pub closes_less : (os all : List Open) (o : Open) (left : List XmlNode) → all ≡ os ++ o ∷ [] → left ≡ []
-    → open_weight os + weight (forest_of o.behind.now) < open_weight all + weight (forest_of left)
-closes_less os all o left popped none = rw (popped, none) (omega (arith, open_weight-append os o))
-
-pub none_left : (xs : List XmlNode) → length xs ≡ 0 → xs ≡ []
-none_left [] h = refl
-none_left (x ∷ xs) h = absurd (omega arith)
-
-pub none_open : (os new : List Open) (n : ℕ) → n ≡ 0 → new ≡ take (n - 1) os → os ≡ new ++ [] → os ≡ []
-none_open os new n z r i = i ∙ ap (λ ps. ps ++ []) (r ∙ ap (λ k. take (k - 1) os) z)
+opens_less os all o children left x pushed step is = rw (pushed, step, is) (omega (arith, left_at-append weight_behind os o))

@@ -1,5 +1,6 @@
 pub mod Entries
 pub mod Forests
 pub mod Weights
+pub mod Opened
 pub mod Copies
 pub mod Waiting

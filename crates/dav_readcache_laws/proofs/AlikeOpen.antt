@@ -19,7 +19,7 @@ use Rattle.dav_readcache.specs.declared.store.ReadCache.{ReadCache}
 use Rattle.dav_readcache.specs.Cached.{cached_file, is_of, shown}
 use Rattle.dav_readcache.specs.Opening.{AfterOpen, EndsOpen, Holds, Opening}
 use Rattle.dav_readcache.specs.Shelf.{ShelfState}
-use Rattle.dav_readcache_laws.specs.ByRules.{OpensAlike}
+use Rattle.dav_local_laws.specs.ReadsByRules.{OpensAlike}
 use Rattle.dav_readcache.proofs.KeptOpen.{kept_shown}
 
 -- ---- a standing with the bytes that are held

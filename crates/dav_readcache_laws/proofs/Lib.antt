@@ -4,5 +4,3 @@ pub mod Joined
 pub mod LocalAll
 pub mod LocalStore
 pub mod RuledCache
-pub mod RuledLocal
-pub mod RuledReads

@@ -22,7 +22,7 @@ use Rattle.dav_readcache.specs.declared.store.ReadCache.{ReadCache}
 use Rattle.dav_readcache.specs.Opening.{AfterOpen, EndsOpen, Opening}
 use Rattle.dav_readcache.specs.Store.{cache_listings, cache_view}
 use Rattle.dav_readcache.proofs.Inside.{walked_inside}
-use Rattle.dav_readcache_laws.specs.ByRules.{ReadsByRules}
+use Rattle.dav_local_laws.specs.ReadsByRules.{ReadsByRules}
 use Rattle.dav_readcache_laws.proofs.AlikeOpen.{opened_alike}
 
 -- ---- listings

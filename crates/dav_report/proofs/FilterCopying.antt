@@ -1,10 +1,12 @@
 -- A copy of filters while it is made: what is done, inside the filters that are open.
-use Rattle.std.proofs.Common.{◌≡◌, ℕ, ◌+◌, ◌-◌, ◌<◌, List, [], ◌∷◌, ◌++◌, length, take, refl, sym, ap, ◌∙◌, subst, arith}
+use Rattle.std.proofs.Common.{◌≡◌, ℕ, ◌+◌, ◌<◌, List, [], ◌∷◌, ◌++◌, refl, sym, ap, ◌∙◌, subst, arith}
 use Rattle.dav_report.specs.Filters.{Asked, Filters, no_filters, and_filter, joined}
 use Rattle.dav_report.specs.FilterLists.{asked_by, filters_of}
 use Rattle.dav_report.specs.declared.caldav.component_filter.ComponentFilter.{ComponentFilter}
 use Rattle.dav_report.specs.declared.caldav.copying.Open.{Open}
-use Rattle.dav_report.proofs.FilterWeights.{weight}
+use Rattle.dav_calendar.specs.EventsTellNested.{joined-bare}
+use Rattle.dav_calendar.proofs.NestedWaiting.{weight}
+use Rattle.dav_lock.proofs.Opened.{left_at, left_at-append}
 
 -- the whole list of filters, where these stand in the innermost open one
 abbrev pub held : List Open → Filters → Filters
@@ -22,10 +24,6 @@ pub joined_more : (d : Filters) (a : Asked) (inner r : Filters)
 joined_more no_filters a inner r = refl
 joined_more (and_filter b i d) a inner r = ap (and_filter b i) (joined_more d a inner r)
 
-pub joined-no_filters : (f : Filters) → joined f no_filters ≡ f
-joined-no_filters no_filters = refl
-joined-no_filters (and_filter a inner others) = ap (and_filter a inner) (joined-no_filters others)
-
 -- a filter is opened
 pub open_step : (os all : List Open) (o : Open) (f : Filters) (left : List ComponentFilter) (x : ComponentFilter) → all ≡ os ++ o ∷ []
     → left ≡ x ∷ o.behind.now → asked_by x ≡ asked_by o.filter → held os (joined o.before (filters_of left)) ≡ f
@@ -39,35 +37,22 @@ pub close_step : (os all : List Open) (o : Open) (d f : Filters) (left : List Co
     → held all (joined d (filters_of left)) ≡ f
     → held os (joined (joined o.before (and_filter (asked_by o.filter) d no_filters)) (filters_of o.behind.now)) ≡ f
 close_step os all o d f left popped none h =
-    ap (held os) (joined_more o.before (asked_by o.filter) d (filters_of o.behind.now)) ∙ sym (held-append os o d) ∙ ap (λ g. held (os ++ o ∷ []) g) (sym (joined-no_filters d))
+    ap (held os) (joined_more o.before (asked_by o.filter) d (filters_of o.behind.now)) ∙ sym (held-append os o d) ∙ ap (λ g. held (os ++ o ∷ []) g) (sym (joined-bare d))
     ∙ subst (λ (ps : List Open). held ps (joined d no_filters) ≡ f) popped (subst (λ (xs : List ComponentFilter). held all (joined d (filters_of xs)) ≡ f) none h)
 
 -- nothing is open or left
 pub all_done : (all : List Open) (d f : Filters) (left : List ComponentFilter) → all ≡ [] → left ≡ [] → held all (joined d (filters_of left)) ≡ f
     → d ≡ f
 all_done all d f left closed none h =
-    sym (joined-no_filters d) ∙ subst (λ (ps : List Open). held ps (joined d no_filters) ≡ f) closed (subst (λ (xs : List ComponentFilter). held all (joined d (filters_of xs)) ≡ f) none h)
+    sym (joined-bare d) ∙ subst (λ (ps : List Open). held ps (joined d no_filters) ≡ f) closed (subst (λ (xs : List ComponentFilter). held all (joined d (filters_of xs)) ≡ f) none h)
 
 -- what is left to do behind the open filters, and to close them
-abbrev pub open_weight : List Open → ℕ
-open_weight [] = 0
-open_weight (o ∷ os) = 1 + weight (filters_of o.behind.now) + open_weight os
+abbrev pub weight_behind : Open → ℕ
+weight_behind o = weight (filters_of o.behind.now)
 
-pub open_weight-append : (os : List Open) (o : Open) → open_weight (os ++ o ∷ []) ≡ open_weight os + (1 + weight (filters_of o.behind.now))
-open_weight-append [] o = omega arith
-open_weight-append (p ∷ os) o = omega (arith, open_weight-append os o)
+abbrev pub open_weight : List Open → ℕ
+open_weight os = left_at weight_behind os
 
 pub opens_less : (os all : List Open) (o : Open) (left : List ComponentFilter) (x : ComponentFilter) → all ≡ os ++ o ∷ [] → left ≡ x ∷ o.behind.now
     → open_weight all + weight x.comp_filters < open_weight os + weight (filters_of left)
-opens_less os all o left x pushed step = rw (pushed, step) (omega (arith, open_weight-append os o))
-
-pub closes_less : (os all : List Open) (o : Open) (left : List ComponentFilter) → all ≡ os ++ o ∷ [] → left ≡ []
-    → open_weight os + weight (filters_of o.behind.now) < open_weight all + weight (filters_of left)
-closes_less os all o left popped none = rw (popped, none) (omega (arith, open_weight-append os o))
-
-pub none_left : (xs : List ComponentFilter) → length xs ≡ 0 → xs ≡ []
-none_left [] h = refl
-none_left (x ∷ xs) h = absurd (omega arith)
-
-pub none_open : (os new : List Open) (n : ℕ) → n ≡ 0 → new ≡ take (n - 1) os → os ≡ new ++ [] → os ≡ []
-none_open os new n z r i = i ∙ ap (λ ps. ps ++ []) (r ∙ ap (λ k. take (k - 1) os) z)
+opens_less os all o left x pushed step = rw (pushed, step) (omega (arith, left_at-append weight_behind os o))

@@ -1,5 +1,5 @@
 -- Filters of components while they are read: what is done, inside the filters that are open.
-use Rattle.std.proofs.Common.{◌≡◌, ℕ, ◌+◌, ◌-◌, ◌<◌, ◌≤◌, length, take, Bool, true, false, cond, List, [], ◌∷◌, ◌++◌, Option, Some, None, codes, refl, sym, ap, ◌∙◌, subst, arith}
+use Rattle.std.proofs.Common.{◌≡◌, ℕ, ◌+◌, ◌<◌, ◌≤◌, Bool, true, false, cond, List, [], ◌∷◌, ◌++◌, Option, Some, None, codes, refl, sym, ap, ◌∙◌, subst, arith}
 use Rattle.std.specs.Option.{option_map}
 use Rattle.std.specs.Str.{bytes_eq}
 use Rattle.dav_lock.specs.Forests.{Forest, bare, then, Tree, element, text, comment, cdata, instruction}
@@ -12,7 +12,9 @@ use Rattle.dav_report.specs.Filters.{Asked, Filters, no_filters, and_filter, joi
 use Rattle.dav_report.specs.FilterLists.{asked_by}
 use Rattle.dav_report.specs.Calendars.{asked, filter_then, component_filters}
 use Rattle.dav_report.specs.declared.calendar_parts.Open.{Open}
-use Rattle.dav_report.proofs.FilterCopying.{joined_more, joined-no_filters}
+use Rattle.dav_report.proofs.FilterCopying.{joined_more}
+use Rattle.dav_calendar.specs.EventsTellNested.{joined-bare}
+use Rattle.dav_lock.proofs.Opened.{left_at, left_at-append}
 
 -- some filters, and then those that may be at fault
 abbrev pub then_maybe : Filters → Option Filters → Option Filters
@@ -42,7 +44,7 @@ closed d a inner None = refl
 closed d a inner (Some r) = ap Some (joined_more d a inner r)
 
 then_maybe-none : (d : Filters) → then_maybe d (Some no_filters) ≡ Some d
-then_maybe-none d = ap Some (joined-no_filters d)
+then_maybe-none d = ap Some (joined-bare d)
 
 none_then_maybe : (o : Option Filters) → then_maybe no_filters o ≡ o
 none_then_maybe None = refl
@@ -111,27 +113,14 @@ named_weight name (cdata t) e h = cc
 named_weight name (instruction t d) e h = cc
 
 -- what is left to do behind the open filters, and to close them
-abbrev pub open_weight : List Open → ℕ
-open_weight [] = 0
-open_weight (o ∷ os) = 1 + weight (forest_of o.behind.now) + open_weight os
+abbrev pub weight_behind : Open → ℕ
+weight_behind o = weight (forest_of o.behind.now)
 
-pub open_weight-append : (os : List Open) (o : Open) → open_weight (os ++ o ∷ []) ≡ open_weight os + (1 + weight (forest_of o.behind.now))
-open_weight-append [] o = omega arith
-open_weight-append (p ∷ os) o = omega (arith, open_weight-append os o)
+abbrev pub open_weight : List Open → ℕ
+open_weight os = left_at weight_behind os
 
 pub opens_less : (os all : List Open) (o : Open) (left : List XmlNode) (x : XmlNode) (e : Element) → all ≡ os ++ o ∷ [] → left ≡ x ∷ o.behind.now
     → e ∷ [] ≡ named (codes "comp-filter") (then (tree_of x) bare)
     → open_weight all + weight e.children < open_weight os + weight (forest_of left)
 opens_less os all o left x e pushed step is =
-    rw (pushed, step) (omega (arith, open_weight-append os o, named_weight (codes "comp-filter") (tree_of x) e is))
-
-pub closes_less : (os all : List Open) (o : Open) (left : List XmlNode) → all ≡ os ++ o ∷ [] → left ≡ []
-    → open_weight os + weight (forest_of o.behind.now) < open_weight all + weight (forest_of left)
-closes_less os all o left popped none = rw (popped, none) (omega (arith, open_weight-append os o))
-
-pub none_left : (xs : List XmlNode) → length xs ≡ 0 → xs ≡ []
-none_left [] h = refl
-none_left (x ∷ xs) h = absurd (omega arith)
-
-pub none_open : (os new : List Open) (n : ℕ) → n ≡ 0 → new ≡ take (n - 1) os → os ≡ new ++ [] → os ≡ []
-none_open os new n z r i = i ∙ ap (λ ps. ps ++ []) (r ∙ ap (λ k. take (k - 1) os) z)
+    rw (pushed, step) (omega (arith, left_at-append weight_behind os o, named_weight (codes "comp-filter") (tree_of x) e is))

@@ -1,11 +1,9 @@
-pub mod Nested
 pub mod Steps
 pub mod Numbers
 pub mod FilterByFilter
 pub mod Found
 pub mod Texts
 pub mod ComponentKinds
-pub mod FilterWeights
 pub mod FilterCopying
 pub mod FilterReading
 pub mod FilterWaiting

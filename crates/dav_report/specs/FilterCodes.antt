@@ -1,16 +1,13 @@
--- How a proof tells filters apart: by their events.
-use Rattle.std.specs.Prelude.{ℕ, Bool, List, [], Option, refl}
-use Rattle.std.specs.Coded.{Coded, code_by, coded×, coded_ℕ, coded_bool, coded_list, coded_option}
+-- How a proof tells filters apart.
+use Rattle.std.specs.Prelude.{ℕ, Bool, List, Option, refl}
+use Rattle.std.specs.Coded.{Coded, code_by, coded×, coded_bool, coded_list, coded_option}
 use Rattle.dav_report.specs.Filters.{Asked, Filters}
-use Rattle.dav_report.specs.FilterEvents.{events, open_at, first_of}
-use Rattle.dav_report.specs.EventsTellFilters.{events_tell}
+use Rattle.dav_calendar.specs.EventsTellNested.{nested_code}
+use Rattle.dav_calendar.specs.TreeCodes.{text_code}
 use Rattle.dav_report.specs.declared.filters.TextMatch.{TextMatch}
 use Rattle.dav_report.specs.declared.filters.ParameterFilter.{ParameterFilter}
 use Rattle.dav_report.specs.declared.caldav.property_filter.TimeRange.{TimeRange}
 use Rattle.dav_report.specs.declared.caldav.property_filter.PropertyFilter.{PropertyFilter}
-
-abbrev pub text_code : Coded (List ℕ)
-text_code = coded_list coded_ℕ
 
 abbrev pub maybe_code : Coded (Option (List ℕ))
 maybe_code = coded_option text_code
@@ -55,6 +52,4 @@ asked_code =
     (λ p. record { name = p.0; is_not_defined = p.1.0; time_range = p.1.1.0; prop_filters = p.1.1.1 }) (λ _. refl)
 
 abbrev pub filters_code : Coded Filters
-filters_code =
-    code_by (List (Option Asked)) (coded_list (coded_option asked_code)) (λ f. events f [])
-    (λ es. first_of (open_at es)) events_tell
+filters_code = nested_code asked_code

@@ -1,6 +1,7 @@
 -- A list of filters as data.
-use Rattle.std.specs.Prelude.{List, [], ◌∷◌}
-use Rattle.dav_report.specs.Filters.{Asked, Filters, no_filters, and_filter}
+use Rattle.std.specs.Prelude.{List}
+use Rattle.dav_calendar.specs.Nested.{nested_of}
+use Rattle.dav_report.specs.Filters.{Asked, Filters}
 use Rattle.dav_report.specs.declared.caldav.component_filter.ComponentFilter.{ComponentFilter}
 
 abbrev pub asked_by : ComponentFilter → Asked
@@ -11,6 +12,8 @@ asked_by f = record {
   prop_filters = f.prop_filters;
 }
 
+abbrev pub filters_in : ComponentFilter → Filters
+filters_in f = f.comp_filters
+
 abbrev pub filters_of : List ComponentFilter → Filters
-filters_of [] = no_filters
-filters_of (f ∷ fs) = and_filter (asked_by f) f.comp_filters (filters_of fs)
+filters_of fs = nested_of asked_by filters_in fs

@@ -1,5 +1,7 @@
 -- Filters of components, each of which may hold others.
-use Rattle.std.specs.Prelude.{ℕ, suc, max, Bool, List, Option}
+use Rattle.std.specs.Prelude.{ℕ, Bool, List, Option}
+use Rattle.dav_calendar.specs.Nested.{Nested}
+pub use Rattle.dav_calendar.specs.Nested.{bare as no_filters, and_one as and_filter, depth as filters_depth, joined}
 use Rattle.dav_report.specs.declared.caldav.property_filter.TimeRange.{TimeRange}
 use Rattle.dav_report.specs.declared.caldav.property_filter.PropertyFilter.{PropertyFilter}
 
@@ -10,17 +12,6 @@ pub record Asked : Type 0 where
   pub time_range : Option TimeRange
   pub prop_filters : List PropertyFilter
 
--- filters in their order: the first, the filters in it, and the others
-pub data Filters : Type 0 where
-  no_filters : Filters
-  and_filter : Asked → Filters → Filters → Filters
-
--- how deep filters nest
-abbrev pub filters_depth : Filters → ℕ
-filters_depth no_filters = 0
-filters_depth (and_filter asked inner others) = max (suc (filters_depth inner)) (filters_depth others)
-
--- some filters, then others
-abbrev pub joined : Filters → Filters → Filters
-joined no_filters more = more
-joined (and_filter asked inner others) more = and_filter asked inner (joined others more)
+-- filters in their order
+abbrev pub Filters : Type 0
+Filters = Nested Asked

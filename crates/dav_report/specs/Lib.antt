@@ -1,6 +1,4 @@
 pub mod Filters
-pub mod FilterEvents
-pub mod EventsTellFilters
 pub mod FilterCodes
 pub mod FilterLists
 pub mod FiltersAreLower

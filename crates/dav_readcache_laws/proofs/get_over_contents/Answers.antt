@@ -7,8 +7,8 @@ use Rattle.dav_readcache_laws.proofs.BodiesSound.{given_held, given_sound, given
 use Rattle.dav_readcache_laws.proofs.Joined.{shows_for}
 use Rattle.dav_readcache_laws.proofs.LocalStore.{local_lists, local_store}
 use Rattle.dav_readcache_laws.proofs.RuledCache.{cache_by_rules}
-use Rattle.dav_readcache_laws.proofs.RuledLocal.{local_by_rules}
-use Rattle.dav_readcache_laws.proofs.RuledReads.{ruled_reads}
+use Rattle.dav_local_laws.proofs.LocalReads.{local_by_rules}
+use Rattle.dav_local_laws.proofs.RuledReads.{ruled_reads}
 use Rattle.dav_readcache_laws.proofs.get_over_contents.Goals as goal
 
 pub returns-clause-right : goal.returns-clause-right

@@ -1,8 +1,8 @@
 use Rattle.dav_readcache.proofs.LocalView.{local_view}
 use Rattle.dav_readcache_laws.proofs.LocalStore.{local_lists, local_store}
 use Rattle.dav_readcache_laws.proofs.RuledCache.{cache_by_rules}
-use Rattle.dav_readcache_laws.proofs.RuledLocal.{local_by_rules}
-use Rattle.dav_readcache_laws.proofs.RuledReads.{ruled_reads}
+use Rattle.dav_local_laws.proofs.LocalReads.{local_by_rules}
+use Rattle.dav_local_laws.proofs.RuledReads.{ruled_reads}
 use Rattle.dav_readcache_laws.proofs.reads_over_contents_are_right.Goals as goal
 
 pub returns : goal.returns

@@ -1,7 +1,7 @@
 use Rattle.std.proofs.Common.{◌≤◌}
 use Rattle.dav_report.specs.Filters.{filters_depth}
 use Rattle.dav_report.specs.FilterLists.{filters_of}
-use Rattle.dav_report.proofs.FilterWeights.{weight}
+use Rattle.dav_calendar.proofs.NestedWaiting.{weight}
 use Rattle.dav_report.proofs.+drops.Given as goal
 
 abbrev pub decreases-caldav::component_filter::ComponentFilters::drop : goal.decreases-caldav::component_filter::ComponentFilters::drop

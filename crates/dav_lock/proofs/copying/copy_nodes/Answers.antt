@@ -2,8 +2,11 @@ use Rattle.std.proofs.Common.{◌≡◌, refl}
 use Rattle.dav_lock.specs.Trees.{tree_of, forest_of}
 use Rattle.dav_lock.specs.declared.element.XmlNode.TheVariants.{Element}
 use Rattle.dav_lock.specs.declared.copying.Open.{Open}
-use Rattle.dav_lock.proofs.Copies.{around, leaf_step, open_step, close_step, all_done, opens_less, closes_less, none_left, none_open}
+use Rattle.dav_lock.proofs.Copies.{around, leaf_step, open_step, close_step, all_done, opens_less, weight_behind}
+use Rattle.dav_lock.proofs.Opened.{closes_less, none_open}
+use Rattle.dav_lock.proofs.Weights.{weight}
 use Rattle.dav_lock.proofs.copying.copy_nodes.Goals as goal
+use Rattle.std.proofs.lemmas.List.{nil_from_length}
 
 pub loop-node-preserved-in-Leaf : goal.loop-node-preserved-in-Leaf
 loop-node-preserved-in-Leaf c =
@@ -31,14 +34,14 @@ loop-node-preserved-in-Inner c =
 pub loop-node-smaller : goal.loop-node-smaller
 loop-node-smaller c =
     rw c.in_ok-done-in-Some-pop.ensures.1
-    (closes_less c.pop.new.self.items c.loop-node.open.items c.in-Some-pop.last c.loop-node.left.now c.in-Some-pop.ensures.items (none_left c.loop-node.left.now c.in-None.ensures.cases))
+    (closes_less weight_behind c.pop.new.self.items c.loop-node.open.items c.in-Some-pop.last (weight (forest_of c.loop-node.left.now)) c.in-Some-pop.ensures.items (rw (nil_from_length c.loop-node.left.now c.in-None.ensures.cases) refl))
 
 pub loop-node-preserved : goal.loop-node-preserved
 loop-node-preserved c =
     rw (c.in_ok-done-in-Some-pop.ensures.0, c.in_ok-done-in-Some-pop.ensures.1)
-    (close_step c.pop.new.self.items c.loop-node.open.items c.in-Some-pop.last c.loop-node.done (forest_of c.args.nodes.now) c.loop-node.left.now c.in-Some-pop.ensures.items (none_left c.loop-node.left.now c.in-None.ensures.cases) c.loop-node.invariant)
+    (close_step c.pop.new.self.items c.loop-node.open.items c.in-Some-pop.last c.loop-node.done (forest_of c.args.nodes.now) c.loop-node.left.now c.in-Some-pop.ensures.items (nil_from_length c.loop-node.left.now c.in-None.ensures.cases) c.loop-node.invariant)
 
 pub returns-in-None-pop : goal.returns-in-None-pop
 returns-in-None-pop c =
     all_done c.loop-node.open.items c.loop-node.done (forest_of c.args.nodes.now) c.loop-node.left.now
-    (none_open c.loop-node.open.items c.pop.new.self.items _ c.in-None-pop.ensures.cases.0 c.in-None-pop.ensures.rest c.in-None-pop.ensures.items) (none_left c.loop-node.left.now c.in-None.ensures.cases) c.loop-node.invariant
+    (none_open c.loop-node.open.items c.pop.new.self.items _ c.in-None-pop.ensures.cases.0 c.in-None-pop.ensures.rest c.in-None-pop.ensures.items) (nil_from_length c.loop-node.left.now c.in-None.ensures.cases) c.loop-node.invariant

@@ -1,7 +1,7 @@
 use Rattle.std.proofs.Common.{◌≡◌, ◌+◌}
 use Rattle.dav_report.specs.Filters.{joined}
 use Rattle.dav_report.specs.FilterLists.{filters_of}
-use Rattle.dav_report.proofs.FilterWeights.{weight}
+use Rattle.dav_calendar.proofs.NestedWaiting.{weight}
 use Rattle.dav_report.proofs.FilterCopying.{held, open_weight}
 use Rattle.dav_report.proofs.caldav.copying.copy_filters.Given as goal
 

@@ -1,6 +1,6 @@
 -- The reply to a GET or HEAD over a store whose calls are those of the rules is right for something that the rules may show, in every run.
-use Rattle.std.proofs.Common.{◌≡◌, ◌≤◌, ◌⊎◌, ℕ, Bool, true, false, cond, List, [], ◌∷◌, map, length, Option, None, Some, Result, Ok, Err, refl, sym, ap, subst, ◌∙◌, inl, inr, arith}
-use Rattle.std.specs.List.{AllByRecursion, filter}
+use Rattle.std.proofs.Common.{◌≡◌, ◌≤◌, ◌⊎◌, ◌&&◌, ℕ, Bool, true, false, not, cond, List, [], ◌∷◌, map, length, Option, None, Some, Result, Ok, Err, refl, sym, ap, subst, ◌∙◌, inl, inr, arith}
+use Rattle.std.specs.List.{AllByRecursion, filter, list_all}
 use Rattle.dav_io.specs.Counts.{Rose}
 use Rattle.dav_io.proofs.ToldLemmas.{told_after}
 use Rattle.dav_core.specs.declared.error.FsError.{FsError}
@@ -56,8 +56,7 @@ use Rattle.dav_local.specs.Ways.{rules_with}
 use Rattle.dav_local.proofs.Allowed.{listed_here, looked_here, looked_same, may_find, may_show, opened_here, opened_same}
 use Rattle.dav_local.proofs.ByRules.{begun_by}
 use Rattle.dav_local.proofs.Showing.{each_numbered, same_found}
-use Rattle.dav_local_laws.proofs.LocalReads.{no_links}
-use Rattle.dav_readcache_laws.specs.ByRules.{OpensLoosely, ReadsByRules}
+use Rattle.dav_local_laws.specs.ReadsByRules.{OpensLoosely, ReadsByRules}
 
 -- ---- what is shown
 
@@ -81,7 +80,7 @@ shown_could rules w f looked opened listed is p q r =
 
 -- ---- worlds that differ in what is open
 
-opened_still : (ways : Ways) (w v : World) (end : Names) (path : WebPath) → SameBesidesOpens w v → opened_by ways v end path ≡ opened_by ways w end path
+pub opened_still : (ways : Ways) (w v : World) (end : Names) (path : WebPath) → SameBesidesOpens w v → opened_by ways v end path ≡ opened_by ways w end path
 opened_still ways w v end path same = ap (λ x. cond (is_shut ways path) (Err fs.Forbidden) x) (same_found w v false end same)
 
 member_still : (w v : World) (row : Row) → SameBesidesOpens w v → is_numbered v.tree row.number ≡ true → member_of v row ≡ member_of w row
@@ -98,12 +97,12 @@ members_of_still w v p (row ∷ rows) same all = by (p row) (members_of_still w 
     by true rest = ap (λ m. m ∷ map (member_of v) (filter p rows)) (member_still w v row same all.0) ∙ ap (λ ms. member_of w row ∷ ms) rest
     by false rest = rest
 
-members_still : (w v : World) (dir : Names) → SameBesidesOpens w v → members v dir ≡ members w dir
+pub members_still : (w v : World) (dir : Names) → SameBesidesOpens w v → members v dir ≡ members w dir
 members_still w v dir same =
     members_of_still w v (stands_in dir) v.tree same (each_numbered v.tree v.tree (λ n e. e))
     ∙ ap (λ rows. map (member_of w) (filter (stands_in dir) rows)) same.tree
 
-begins_still : (w v : World) (dir : Names) (r : Result LocalFsReadDir FsError) → SameBesidesOpens w v → BeginsThere (listed_in v dir) r → BeginsThere (listed_in w dir) r
+pub begins_still : (w v : World) (dir : Names) (r : Result LocalFsReadDir FsError) → SameBesidesOpens w v → BeginsThere (listed_in v dir) r → BeginsThere (listed_in w dir) r
 begins_still w v dir r same there =
     subst (λ rows. BeginsThere (members_or w dir (listable (look rows dir))) r) same.tree (begun_by w v dir (listable (look v.tree dir)) r there)
 
@@ -111,6 +110,22 @@ begins_still w v dir r same there =
 begun_there : (w : World) (dir : Names) (stands : Result Row DiskError) (l : LocalFsReadDir) → BeginsThere (members_or w dir stands) (Ok l) → members_or w dir stands ≡ Ok (members w dir)
 begun_there w dir (Ok row) l there = refl
 begun_there w dir (Err e) l there = absurd there
+
+-- ---- a directory in which no link stands
+
+clear_parts : (linked rows : Bool) → (not linked && rows) ≡ true → (linked ≡ false) × (rows ≡ true)
+clear_parts false true e = (refl, refl)
+clear_parts false false e = cc
+clear_parts true rows e = cc
+
+unlinked_rows : (tree rows : List Row) → list_all (λ row. not (is_linked tree row.path)) rows ≡ true → AllByRecursion (λ row. is_linked tree row.path ≡ false) rows
+unlinked_rows tree [] e = tt
+unlinked_rows tree (row ∷ rows) e = let parts = clear_parts (is_linked tree row.path) (list_all (λ row. not (is_linked tree row.path)) rows) e in (parts.0, unlinked_rows tree rows parts.1)
+
+pub no_links : (w : World) (dir : Names) → is_clear w.tree dir ≡ true → HasNoLinks w dir
+no_links w dir e =
+    let parts = clear_parts (is_linked w.tree dir) (list_all (λ row. not (is_linked w.tree row.path)) (filter (stands_in dir) w.tree)) e in
+    record { way = parts.0; rows = unlinked_rows w.tree (filter (stands_in dir) w.tree) parts.1 }
 
 module _ {S C F : Type 0} (view : View S C F) (lists : Listings S C LocalFsReadDir LocalFsDirEntry) (ways : S → Ways) (memory : S → MemoryState) (rule : ReadsByRules view lists ways memory) where
   module _ (q : Query) (c : C) (s : S) (result : Given F) (t : S) (life : OpenOnlyHeld view s result t) (reply : Reply)
