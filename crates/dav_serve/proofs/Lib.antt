@@ -4,7 +4,6 @@ pub mod OneIsSaid
 pub mod Prefixes
 pub mod PlayedByTree
 pub mod StepsArePlayed
-pub mod RepliesCounted
 pub mod RequestsAreSome
 pub mod ExchangesEnd
 pub mod NextIsRead

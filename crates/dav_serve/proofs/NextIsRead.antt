@@ -2,6 +2,7 @@
 use Rattle.std.proofs.Common.{◌≡◌, ◌<◌, ◌≤◌, ◌^◌, ◌++◌, ℕ, List, [], ◌∷◌, Result, Ok, Err, length, take, drop, sym, ap, subst, ◌∙◌, refl, arith, append_assoc, append-nil, length-append}
 use Rattle.std.proofs.lemmas.List.{append_cancel_left, take-append-drop, take_all}
 use Rattle.http.specs.declared.request.Parts.{Parts}
+use Rattle.http.specs.Request.{body_of, head_of}
 use Rattle.httparse.specs.Grammar.{HasNoRequest, MayBecomeRequest, print_request, RequestHead}
 use Rattle.dav_io.specs.Outside.{Stream}
 use Rattle.dav_io.specs.declared.failure.Failed.{Failed as SinkFailed}
@@ -25,7 +26,8 @@ use Rattle.dav_wire.proofs.BodyLaws.{bodies_stay, parts_announce}
 use Rattle.dav_wire.proofs.BodyProgress.{nothing_read}
 use Rattle.dav_wire.proofs.Pushing.{pushes_then}
 use Rattle.dav_wire.proofs.RequestLemmas.{request_stays}
-use Rattle.dav_serve.specs.Next.{GivesNext, ReadsNext, next_by, over_with}
+use Rattle.dav_model.specs.Conditions.{Asked}
+use Rattle.dav_serve.specs.Next.{GivesNext, HasBodyOf, ReadsNext, next_by, over_with}
 use Rattle.dav_serve.specs.Serving.{IsEmptied, IsWanting, wanting_head, wanting_body}
 use Rattle.dav_serve.specs.declared.asking.Next.{Next}
 use Rattle.dav_serve.specs.declared.asking.Next.TheVariants.{Refused}
@@ -97,8 +99,8 @@ pub wants : (held kept : List ℕ) → kept ≡ held → length held ≤ 65536 �
 wants held kept same short none may = subst IsWanting (sym same) (wanting_head short none may)
 
 -- the client was asked for more of a head
-pub head_more : {old between : Stream} {held mid next : Pending} → ReadsOn old held [] mid between → Finds mid.bytes (Ok More) next.bytes → next.taken ≡ mid.taken → ReadsOn old held [] next between
-head_more {between = between} {next = next} a found count = reads_then [] a (sym found.0) count (nothing_read between next)
+pub head_more : {old between : Stream} {held mid next : Pending} (parts : Parts) → ReadsOn old held [] mid between → Finds mid.bytes (Ok More) parts next.bytes → next.taken ≡ mid.taken → ReadsOn old held [] next between
+head_more {between = between} {next = next} parts a found count = reads_then [] a (sym found.0) count (nothing_read between next)
 
 same_held : (held kept : Pending) (n : ℕ) → n ≡ 0 → Behind held n kept → kept.bytes ≡ held.bytes
 same_held held kept n zero b = sym (take_all (length held.bytes) kept.bytes (let l = b.long in omega arith)) ∙ b.front
@@ -113,59 +115,59 @@ fill_empties {old = old} {new = new} {held = held} {kept = kept} n zero f = both
 empties_then : {old between : Stream} {held mid : Pending} {passed : List ℕ} (new : Stream) → ReadsOn old held passed mid between → IsEmptied between new → IsEmptied old new
 empties_then {old = old} {between = between} new a e = both_then old.bytes between.bytes new.bytes (λ x y. x ≡ a.got ++ y) (λ x y. y ≡ []) (λ x y. y ≡ []) (λ x y z f g. g) a.told e
 
-over_gives : (old new : Stream) (text : List ℕ) (kept : Pending) → length text ≤ 65536 → HasNoRequest text → MayBecomeRequest text → kept.taken < 2 ^ 60 → IsEmptied old new
-    → GivesNext old (Ok (over_with text)) text kept new
-over_gives old new [] kept short none may few over = (refl, few, over)
-over_gives old new (b ∷ bytes) kept short none may few over = (open_head (record { some = omega arith; short = short; none = none; may = may }), few, over)
+over_gives : (old new : Stream) (asked : Asked) (text : List ℕ) (kept : Pending) → length text ≤ 65536 → HasNoRequest text → MayBecomeRequest text → kept.taken < 2 ^ 60 → IsEmptied old new
+    → GivesNext old (Ok (over_with text)) asked text kept new
+over_gives old new asked [] kept short none may few over = (refl, few, over)
+over_gives old new asked (b ∷ bytes) kept short none may few over = (open_head (record { some = omega arith; short = short; none = none; may = may }), few, over)
 
 -- the input is over
-pub head_over : {old between new : Stream} {held mid next kept : Pending} (n : ℕ) (end : Next) → ReadsOn old held [] mid between → Finds mid.bytes (Ok More) next.bytes → next.taken ≡ mid.taken
-    → Fills between next (Ok n) kept new → n ≡ 0 → end ≡ over_with kept.bytes → ReadsNext old held (Ok end) kept new
-head_over {old = old} {between = between} {new = new} {held = held} {mid = mid} {next = next} {kept = kept} n end a found count f zero is =
+pub head_over : {old between new : Stream} {held mid next kept : Pending} (parts : Parts) (n : ℕ) (end : Next) (asked : Asked) → ReadsOn old held [] mid between → Finds mid.bytes (Ok More) parts next.bytes → next.taken ≡ mid.taken
+    → Fills between next (Ok n) kept new → n ≡ 0 → end ≡ over_with kept.bytes → ReadsNext old held (Ok end) asked kept new
+head_over {old = old} {between = between} {new = new} {held = held} {mid = mid} {next = next} {kept = kept} parts n end asked a found count f zero is =
     let same = same_held next kept n zero f.grows ∙ found.0 in
     record {
       passed = [];
       on = reads_then [] a (sym found.0) count (fill_reads f);
-      gives = subst (λ z. GivesNext old (Ok z) kept.bytes kept new) (sym is) (over_gives old new kept.bytes kept
+      gives = subst (λ z. GivesNext old (Ok z) asked kept.bytes kept new) (sym is) (over_gives old new asked kept.bytes kept
           (subst (λ z. length z ≤ 65536) (sym same) found.1) (subst HasNoRequest (sym same) found.2) (subst MayBecomeRequest (sym same) found.3)
           (let less = f.grows.before in let t = f.grows.taken in omega arith)
           (empties_then new a (fill_empties n zero f)));
     }
 
-fail_gives : (old between new : Stream) (next kept : Pending) (e : ReadError) → IsWanting next.bytes → old.faults ≤ between.faults → FillsThen between next (Err e) kept new
-    → GivesNext old (Err e) kept.bytes kept new
-fail_gives old between new next kept Failed wanting counts f = (
+fail_gives : (old between new : Stream) (next kept : Pending) (asked : Asked) (e : ReadError) → IsWanting next.bytes → old.faults ≤ between.faults → FillsThen between next (Err e) kept new
+    → GivesNext old (Err e) asked kept.bytes kept new
+fail_gives old between new next kept asked Failed wanting counts f = (
   subst (λ (z : Pending). IsWanting z.bytes) (sym f.grows) wanting,
   subst (λ (z : Pending). z.taken < 2 ^ 60) (sym f.grows) (f.fewer refl),
   rose_between old.faults between.faults between.faults new.faults counts (omega arith) (f.failed refl),
 )
-fail_gives old between new next kept TooMuch wanting counts f =
+fail_gives old between new next kept asked TooMuch wanting counts f =
     (subst (λ (z : Pending). IsWanting z.bytes) (sym f.grows) wanting, ap (λ (z : Pending). z.taken) f.grows ∙ f.too_much refl)
-fail_gives old between new next kept WithoutMemory wanting counts f = tt
-fail_gives old between new next kept Unsent wanting counts f = tt
+fail_gives old between new next kept asked WithoutMemory wanting counts f = tt
+fail_gives old between new next kept asked Unsent wanting counts f = tt
 
 -- no more of a head came
-pub head_fails : {old between new : Stream} {held mid next kept : Pending} (e : ReadError) → ReadsOn old held [] mid between → Finds mid.bytes (Ok More) next.bytes → next.taken ≡ mid.taken
-    → FillsThen between next (Err e) kept new → ReadsNext old held (Err e) kept new
-head_fails {old = old} {between = between} {new = new} {mid = mid} {next = next} {kept = kept} e a found count f = record {
+pub head_fails : {old between new : Stream} {held mid next kept : Pending} (parts : Parts) (e : ReadError) (asked : Asked) → ReadsOn old held [] mid between → Finds mid.bytes (Ok More) parts next.bytes → next.taken ≡ mid.taken
+    → FillsThen between next (Err e) kept new → ReadsNext old held (Err e) asked kept new
+head_fails {old = old} {between = between} {new = new} {mid = mid} {next = next} {kept = kept} parts e asked a found count f = record {
   passed = [];
   on = reads_then [] a (sym found.0) count (unfilled_reads e f);
-  gives = fail_gives old between new next kept e (wants mid.bytes next.bytes found.0 found.1 found.2 found.3) a.counts f;
+  gives = fail_gives old between new next kept asked e (wants mid.bytes next.bytes found.0 found.1 found.2 found.3) a.counts f;
 }
 
 -- no request stands there
-pub head_refused : {old between : Stream} {held mid next : Pending} → ReadsOn old held [] mid between → Finds mid.bytes (Ok FoundRefused) next.bytes → next.taken ≡ mid.taken
-    → ReadsNext old held (Ok (Refused Malformed)) next between
-head_refused {between = between} {next = next} a found count = record {
+pub head_refused : {old between : Stream} {held mid next : Pending} (parts : Parts) (asked : Asked) → ReadsOn old held [] mid between → Finds mid.bytes (Ok FoundRefused) parts next.bytes → next.taken ≡ mid.taken
+    → ReadsNext old held (Ok (Refused Malformed)) asked next between
+head_refused {between = between} {next = next} parts asked a found count = record {
   passed = [];
   on = reads_then [] a (sym found.1) count (nothing_read between next);
   gives = refused_head refl (subst Refusal (sym found.1) found.0);
 }
 
 -- memory was refused
-pub head_starved : {old between : Stream} {held mid next : Pending} → ReadsOn old held [] mid between → next.bytes ≡ mid.bytes → next.taken ≡ mid.taken
-    → ReadsNext old held (Err WithoutMemory) next between
-head_starved {between = between} {next = next} a same count = record { passed = []; on = reads_then [] a (sym same) count (nothing_read between next); gives = tt }
+pub head_starved : {old between : Stream} {held mid next : Pending} (asked : Asked) → ReadsOn old held [] mid between → next.bytes ≡ mid.bytes → next.taken ≡ mid.taken
+    → ReadsNext old held (Err WithoutMemory) asked next between
+head_starved {between = between} {next = next} asked a same count = record { passed = []; on = reads_then [] a (sym same) count (nothing_read between next); gives = tt }
 
 -- ---- behind a head
 
@@ -177,7 +179,7 @@ pub record Begins (mid : Pending) (next : Pending) (parts : Parts) (announced : 
   pub same : next.taken ≡ mid.taken
   pub announced_is : announced ≡ announces head
 
-pub begins : {mid next : Pending} {parts : Parts} {announced : Announced} → Finds mid.bytes (Ok (FoundWhole parts)) next.bytes → next.taken ≡ mid.taken → announced ≡ announced_by parts
+pub begins : {mid next : Pending} {parts : Parts} {announced : Announced} → Finds mid.bytes (Ok FoundWhole) parts next.bytes → next.taken ≡ mid.taken → announced ≡ announced_by parts
     → Begins mid next parts announced
 begins {parts = parts} found same is = record { head = found.0; stands = found.1; read = found.2; same = same; announced_is = is ∙ parts_announce found.0 parts found.2 }
 
@@ -199,21 +201,22 @@ pub body_wants : {between new : Stream} {mid next kept : Pending} {parts : Parts
 body_wants {mid = mid} {next = next} {kept = kept} {passed = passed} b c unfinished = wanting_body b.head (passed ++ kept.bytes) (stands_on mid.bytes next.bytes c.got passed kept.bytes b.head b.stands c.whole)
     (subst (λ z. IsBodyUnfinished z (passed ++ kept.bytes)) b.announced_is unfinished)
 
-read_gives : {between : Stream} {mid next kept : Pending} {parts : Parts} {announced : Announced} {passed : List ℕ} (old new : Stream) (read : BodyRead) (b : Begins mid next parts announced)
-    → ReadsOn between next passed kept new → GivesBody announced between (Ok read) passed kept new → (IsEmptied between new → IsEmptied old new)
-    → GivesNext old (Ok (next_by parts read)) ((print_request b.head ++ passed) ++ kept.bytes) kept new
-read_gives {mid = mid} {next = next} {kept = kept} {announced = announced} {passed = passed} old new (BodyWhole body) b c gives over = (
+read_gives : {between : Stream} {mid next kept : Pending} {announced : Announced} {passed : List ℕ} (old new : Stream) (read : BodyRead) (asked : Asked) (b : Begins mid next (head_of asked) announced)
+    → HasBodyOf read (body_of asked) → ReadsOn between next passed kept new → GivesBody announced between (Ok read) passed kept new → (IsEmptied between new → IsEmptied old new)
+    → GivesNext old (Ok (next_by read)) asked ((print_request b.head ++ passed) ++ kept.bytes) kept new
+read_gives {mid = mid} {next = next} {kept = kept} {announced = announced} {passed = passed} old new (BodyWhole body) asked b has c gives over = (
   b.head,
   b.read,
   record {
     behind = passed ++ kept.bytes;
     request = stands_on mid.bytes next.bytes c.got passed kept.bytes b.head b.stands c.whole;
-    body = subst (λ z. IsBody z (passed ++ kept.bytes) body kept.bytes) b.announced_is (bodies_stay announced passed body [] kept.bytes gives);
+    body = subst (λ z. IsBody (announces b.head) (passed ++ kept.bytes) z kept.bytes) (sym has)
+        (subst (λ z. IsBody z (passed ++ kept.bytes) body kept.bytes) b.announced_is (bodies_stay announced passed body [] kept.bytes gives));
   },
 )
-read_gives {mid = mid} {next = next} {kept = kept} {passed = passed} old new (BodyRefused flaw) b c gives over = refused_body b.head (passed ++ kept.bytes)
+read_gives {mid = mid} {next = next} {kept = kept} {passed = passed} old new (BodyRefused flaw) asked b has c gives over = refused_body b.head (passed ++ kept.bytes)
     (stands_on mid.bytes next.bytes c.got passed kept.bytes b.head b.stands c.whole) (subst (λ z. BodyRefusal z (passed ++ kept.bytes) flaw) b.announced_is gives)
-read_gives {mid = mid} {next = next} {kept = kept} {passed = passed} old new Ended b c gives over = (
+read_gives {mid = mid} {next = next} {kept = kept} {passed = passed} old new Ended asked b has c gives over = (
   open_body b.head (passed ++ kept.bytes) (stands_on mid.bytes next.bytes c.got passed kept.bytes b.head b.stands c.whole)
       (subst (λ z. IsBodyUnfinished z (passed ++ kept.bytes)) b.announced_is gives.0),
   gives.1,
@@ -221,27 +224,27 @@ read_gives {mid = mid} {next = next} {kept = kept} {passed = passed} old new End
 )
 
 -- the body was read, or is none
-pub body_read : {old between new : Stream} {held mid next kept : Pending} {parts : Parts} {announced : Announced} (read : BodyRead) (end : Next) → Begins mid next parts announced
-    → ReadsOn old held [] mid between → ReadsBody announced between next (Ok read) kept new → end ≡ next_by parts read → ReadsNext old held (Ok end) kept new
-body_read {old = old} {new = new} {held = held} {kept = kept} read end b a r is = subst (λ z. ReadsNext old held (Ok z) kept new) (sym is) (record {
+pub body_read : {old between new : Stream} {held mid next kept : Pending} {announced : Announced} (read : BodyRead) (end : Next) (asked : Asked) → Begins mid next (head_of asked) announced
+    → ReadsOn old held [] mid between → ReadsBody announced between next (Ok read) kept new → end ≡ next_by read → HasBodyOf read (body_of asked) → ReadsNext old held (Ok end) asked kept new
+body_read {old = old} {new = new} {held = held} {kept = kept} read end asked b a r is has = subst (λ z. ReadsNext old held (Ok z) asked kept new) (sym is) (record {
   passed = print_request b.head ++ r.passed;
   on = body_reads b a r.on;
-  gives = read_gives old new read b r.on r.gives (empties_then new a);
+  gives = read_gives old new read asked b has r.on r.gives (empties_then new a);
 })
 
-fails_gives : (old : Stream) {between new : Stream} {mid next kept : Pending} {parts : Parts} {announced : Announced} {passed : List ℕ} (e : ReadError) (b : Begins mid next parts announced)
+fails_gives : (old : Stream) {between new : Stream} {mid next kept : Pending} {parts : Parts} {announced : Announced} {passed : List ℕ} (e : ReadError) (asked : Asked) (b : Begins mid next parts announced)
     → ReadsOn between next passed kept new → GivesBody announced between (Err e) passed kept new → old.faults ≤ between.faults
-    → GivesNext old (Err e) ((print_request b.head ++ passed) ++ kept.bytes) kept new
-fails_gives old {between = between} {new = new} Failed b c gives counts =
+    → GivesNext old (Err e) asked ((print_request b.head ++ passed) ++ kept.bytes) kept new
+fails_gives old {between = between} {new = new} Failed asked b c gives counts =
     (body_wants b c gives.0, gives.1, rose_between old.faults between.faults between.faults new.faults counts (omega arith) gives.2)
-fails_gives old TooMuch b c gives counts = (body_wants b c gives.0, gives.1)
-fails_gives old WithoutMemory b c gives counts = tt
-fails_gives old Unsent b c gives counts = tt
+fails_gives old TooMuch asked b c gives counts = (body_wants b c gives.0, gives.1)
+fails_gives old WithoutMemory asked b c gives counts = tt
+fails_gives old Unsent asked b c gives counts = tt
 
 -- no more of it came
-pub body_fails : {old between new : Stream} {held mid next kept : Pending} {parts : Parts} {announced : Announced} (e : ReadError) → Begins mid next parts announced
-    → ReadsOn old held [] mid between → ReadsBody announced between next (Err e) kept new → ReadsNext old held (Err e) kept new
-body_fails {old = old} e b a r = record { passed = print_request b.head ++ r.passed; on = body_reads b a r.on; gives = fails_gives old e b r.on r.gives a.counts }
+pub body_fails : {old between new : Stream} {held mid next kept : Pending} {parts : Parts} {announced : Announced} (e : ReadError) (asked : Asked) → Begins mid next parts announced
+    → ReadsOn old held [] mid between → ReadsBody announced between next (Err e) kept new → ReadsNext old held (Err e) asked kept new
+body_fails {old = old} e asked b a r = record { passed = print_request b.head ++ r.passed; on = body_reads b a r.on; gives = fails_gives old e asked b r.on r.gives a.counts }
 
 -- ---- what waits for the sink
 

@@ -1,5 +1,5 @@
 -- The words that are prefixes.
-use Rattle.std.proofs.Common.{◌≡◌, ◌&&◌, ℕ, List, true, false, codes, refl, ap, ap₂, sym}
+use Rattle.std.proofs.Common.{◌≡◌, ◌&&◌, ℕ, Bool, List, [], ◌∷◌, map, true, false, codes, refl, ap, ap₂, sym}
 use Rattle.std.specs.List.{list_all}
 use Rattle.dav_core.specs.Grammar.{fits_prefix}
 use Rattle.dav_serve.specs.Words.{has_names, is_prefix, is_prefix_byte}
@@ -17,32 +17,12 @@ pub names_decide : (word : List ℕ) → list_all is_prefix_byte word ≡ true �
 unfolding is_prefix
 names_decide word e f = sym (ap₂ (λ b c. b && (c && has_names word)) e f)
 
--- ---- worked words
+-- Worked words, and which of them are prefixes. Empty segments are dropped; no prefix is a segment of dots, a slash alone, a
+-- name without a slash, and what has a percent sign or a blank.
+abbrev worked : List (List ℕ × Bool)
+worked = (codes "/dav", true) ∷ (codes "//dav/x/", true) ∷ (codes "/a/./b", false) ∷ (codes "/", false) ∷ (codes "dav", false) ∷ (codes "/a%20b", false)
+    ∷ (codes "/a b", false) ∷ []
 
-pub one_name_is_a_prefix : is_prefix (codes "/dav") ≡ true
+pub worked_are_told : map (λ (row : List ℕ × Bool). is_prefix row.0) worked ≡ map (λ (row : List ℕ × Bool). row.1) worked
 unfolding is_prefix
-one_name_is_a_prefix = refl
-
-pub empty_segments_are_dropped : is_prefix (codes "//dav/x/") ≡ true
-unfolding is_prefix
-empty_segments_are_dropped = refl
-
-pub dots_are_no_prefix : is_prefix (codes "/a/./b") ≡ false
-unfolding is_prefix
-dots_are_no_prefix = refl
-
-pub a_slash_alone_is_no_prefix : is_prefix (codes "/") ≡ false
-unfolding is_prefix
-a_slash_alone_is_no_prefix = refl
-
-pub a_name_without_slash_is_no_prefix : is_prefix (codes "dav") ≡ false
-unfolding is_prefix
-a_name_without_slash_is_no_prefix = refl
-
-pub a_percent_is_no_prefix : is_prefix (codes "/a%20b") ≡ false
-unfolding is_prefix
-a_percent_is_no_prefix = refl
-
-pub a_blank_is_no_prefix : is_prefix (codes "/a b") ≡ false
-unfolding is_prefix
-a_blank_is_no_prefix = refl
+worked_are_told = refl

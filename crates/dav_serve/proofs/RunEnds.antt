@@ -9,6 +9,7 @@ use Rattle.dav_io.specs.Outside.{Stream}
 use Rattle.dav_io.specs.declared.clock.Moment.{Moment}
 use Rattle.dav_io.specs.declared.failure.Failed.{Failed as SinkFailure}
 use Rattle.dav_model.specs.Rules.{Knowledge}
+use Rattle.dav_model.specs.Trail.{Point}
 use Rattle.dav_model.specs.declared.step.Step.TheVariants.{Poll, Turn}
 use Rattle.dav_model.specs.declared.answer.Answer.TheVariants.{Broken, Done}
 use Rattle.dav_wire.specs.Answers.{refusal_text}
@@ -294,13 +295,13 @@ front_by old mid new bytes waiting later (Ok x) sent pushes none = sent_some old
 front_by old mid new bytes waiting later (Err e) sent pushes none = sent_on_front old mid new bytes waiting sent (sent_flush_front mid new waiting later e pushes)
 
 -- where memory was refused, as far as the sink takes it
-pub starved_flushed : {setup : Setup} {before : Outside} {waiting : List ℕ} {mid : Outside} (new : Stream) (later : List ℕ) (result : Result Unit SinkFailure) → Starved setup before waiting mid
-    → Pushes mid.sink waiting [] result later new → later ≡ [] → ServedPartly setup before (outside_of mid.source new mid.disk)
-starved_flushed {before = before} {waiting = waiting} {mid = mid} new later result v pushes none = record {
+pub starved_flushed : {setup : Setup} {before : Outside} {waiting : List ℕ} {left written : Stream} {t : Point} (new : Stream) (later : List ℕ) (result : Result Unit SinkFailure)
+    → Starved setup before waiting (outside_of left written t) → Pushes written waiting [] result later new → later ≡ [] → ServedPartly setup before (outside_of left new t)
+starved_flushed {before = before} {waiting = waiting} {written = written} new later result v pushes none = record {
   exchanges = v.exchanges;
   bytes = v.bytes;
   halfway = record { closed = v.halfway.closed; held = v.halfway.held; place = v.halfway.place; serving = v.halfway.serving; partway = v.halfway.partway; behind = v.halfway.behind };
-  sent = front_by before.sink mid.sink new (wires v.exchanges ++ v.bytes) waiting later result v.sent pushes none;
+  sent = front_by before.sink written new (wires v.exchanges ++ v.bytes) waiting later result v.sent pushes none;
 }
 
 -- where memory was refused before anything was read

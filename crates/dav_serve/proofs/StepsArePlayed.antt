@@ -1,15 +1,17 @@
 -- Steps that are made one after the other are played along one trail.
-use Rattle.std.proofs.Common.{◌≡◌, ℕ, List, [], ◌∷◌, Ok, Err, refl, subst}
+use Rattle.std.proofs.Common.{◌≡◌, ℕ, List, [], ◌∷◌, Result, Ok, Err, IfOk, OnErr, refl, subst}
 use Rattle.dav_io.specs.declared.clock.Moment.{Moment}
 use Rattle.dav_io.specs.declared.failure.NoMemory.{NoMemory}
 use Rattle.dav_model.specs.declared.step.Step.{Step}
 use Rattle.dav_model.specs.declared.step.Step.TheVariants.{Request, Poll, Purge, Turn}
 use Rattle.dav_model.specs.declared.answer.Answer.{Answer}
-use Rattle.dav_model.specs.declared.answer.Answer.TheVariants.{Done}
+use Rattle.dav_model.specs.declared.answer.Answer.TheVariants.{Done, Reply as Replied}
 use Rattle.dav_model.specs.Conditions.{Asked}
 use Rattle.dav_model.specs.Trail.{Move}
 use Rattle.dav_model.specs.Play.{AreFull, Ends, Played, Stage, StaysOpen, Stepped}
 use Rattle.dav_model.proofs.JoiningLemmas.{none_played, one_more_played, refused_played}
+use Rattle.dav_handler.specs.Replies.{answered}
+use Rattle.dav_handler.specs.declared.replies.Reply.{Reply}
 use Rattle.dav_serve.specs.Stages.{PlayedOn, RefusedAt}
 use Rattle.dav_serve.proofs.PlayedByTree.{played_along}
 
@@ -70,14 +72,20 @@ module _ (a : Stage) (held : StaysOpen a.at a.playing) (full : AreFull a.playing
   )
 
   -- a turn and a poll
-  pub poll_played : (m b : Stage) (body : ℕ) (first answer : Answer) → Stepped a Turn (Ok first) m → Stepped m (Poll body) (Ok answer) b
+  poll_played : (m b : Stage) (body : ℕ) (first answer : Answer) → Stepped a Turn (Ok first) m → Stepped m (Poll body) (Ok answer) b
       → PlayedOn a (Turn ∷ Poll body ∷ []) (Done ∷ answer ∷ []) (Ok tt) b
   poll_played m b body first answer turned polled =
       subst (λ x. PlayedOn a (Turn ∷ Poll body ∷ []) (x ∷ answer ∷ []) (Ok tt) b) (turn_done a m first turned)
       (played_along _ a b (Turn ∷ Poll body ∷ []) (first ∷ answer ∷ []) (Ok tt) (two m b Turn (Poll body) first answer turned polled))
 
+  -- a turn and a poll, of which the poll may be refused memory
+  pub poll_is_played : (m b : Stage) (body : ℕ) (first : Answer) (result : Result Answer NoMemory) → Stepped a Turn (Ok first) m → Stepped m (Poll body) result b
+      → IfOk result (λ answer. PlayedOn a (Turn ∷ Poll body ∷ []) (Done ∷ answer ∷ []) (Ok tt) b) × OnErr result (RefusedAt a (Turn ∷ Poll body ∷ []) b)
+  poll_is_played m b body first (Ok answer) turned polled = (poll_played m b body first answer turned polled, tt)
+  poll_is_played m b body first (Err e) turned polled = (tt, refused_second m b Turn (Poll body) [] first e turned polled)
+
   -- a turn, a purge and a request
-  pub request_played : (m n b : Stage) (now : Moment) (request : Asked) (first second reply : Answer) → Stepped a Turn (Ok first) m → Stepped m (Purge now) (Ok second) n
+  request_played : (m n b : Stage) (now : Moment) (request : Asked) (first second reply : Answer) → Stepped a Turn (Ok first) m → Stepped m (Purge now) (Ok second) n
       → Stepped n (Request request now) (Ok reply) b
       → PlayedOn a (Turn ∷ Purge now ∷ Request request now ∷ []) (Done ∷ Done ∷ reply ∷ []) (Ok tt) b
   request_played m n b now request first second reply turned purged asked =
@@ -85,3 +93,12 @@ module _ (a : Stage) (held : StaysOpen a.at a.playing) (full : AreFull a.playing
       subst (λ x. PlayedOn a steps (Done ∷ x ∷ reply ∷ []) (Ok tt) b) (purge_done m n now second purged)
       (subst (λ x. PlayedOn a steps (x ∷ second ∷ reply ∷ []) (Ok tt) b) (turn_done a m first turned)
       (played_along _ a b steps (first ∷ second ∷ reply ∷ []) (Ok tt) (three m n b Turn (Purge now) (Request request now) first second reply turned purged asked)))
+
+  -- of which the request may be refused memory
+  pub request_is_played : (m n b : Stage) (now : Moment) (request : Asked) (first second : Answer) (result : Result Reply NoMemory) → Stepped a Turn (Ok first) m → Stepped m (Purge now) (Ok second) n
+      → Stepped n (Request request now) (answered result) b
+      → IfOk result (λ r. PlayedOn a (Turn ∷ Purge now ∷ Request request now ∷ []) (Done ∷ Done ∷ Replied r.status r.headers r.body ∷ []) (Ok tt) b)
+      × OnErr result (RefusedAt a (Turn ∷ Purge now ∷ Request request now ∷ []) b)
+  request_is_played m n b now request first second (Ok reply) turned purged asked = (request_played m n b now request first second _ turned purged asked, tt)
+  request_is_played m n b now request first second (Err e) turned purged asked =
+      (tt, refused_third m n b Turn (Purge now) (Request request now) first second e turned purged asked)

@@ -1,5 +1,5 @@
 -- Worked words: which say a size or a number of a large input, and which say none.
-use Rattle.std.proofs.Common.{◌≡◌, ◌≤◌, ◌∙◌, ℕ, [], codes, decimal, None, Some, refl, sym, ap, arith}
+use Rattle.std.proofs.Common.{◌≡◌, ◌≤◌, ◌∙◌, ℕ, List, [], ◌∷◌, map, codes, decimal, Option, None, Some, refl, sym, ap, arith}
 use Rattle.std.specs.Fmt.{digits}
 use Rattle.std.proofs.lemmas.Fmt.{decimal_is_IsNumeral}
 use Rattle.dav_serve.specs.Words.{number_said, size_said}
@@ -11,36 +11,18 @@ digits_say n few =
     let same = (decimal_is_IsNumeral n (omega arith)).1 in
     said_of 1048576 (decimal n) (omega (arith, same)) (ap decimal (sym same)) ∙ ap Some same
 
-pub zero_is_said : size_said (codes "0") ≡ Some 0
+-- Words of a size, and what they say: nothing is said by more than the most, no digits, a sign, and zeros in front.
+abbrev sizes : List (List ℕ × Option ℕ)
+sizes = (codes "0", Some 0) ∷ (codes "1048576", Some 1048576) ∷ (codes "1048577", None) ∷ ([], None) ∷ (codes "+1", None) ∷ (codes "01", None) ∷ []
+
+pub sizes_are_told : map (λ (row : List ℕ × Option ℕ). size_said row.0) sizes ≡ map (λ (row : List ℕ × Option ℕ). row.1) sizes
 unfolding digits
-zero_is_said = refl
+sizes_are_told = refl
 
-pub the_most_is_said : size_said (codes "1048576") ≡ Some 1048576
+-- words of a large input's number, and what they say
+abbrev seeds : List (List ℕ × Option ℕ)
+seeds = (codes "399", Some 399) ∷ (codes "400", None) ∷ (codes "007", None) ∷ []
+
+pub seeds_are_told : map (λ (row : List ℕ × Option ℕ). number_said 399 row.0) seeds ≡ map (λ (row : List ℕ × Option ℕ). row.1) seeds
 unfolding digits
-the_most_is_said = refl
-
-pub more_is_not : size_said (codes "1048577") ≡ None
-more_is_not = refl
-
-pub nothing_is_not : size_said [] ≡ None
-unfolding digits
-nothing_is_not = refl
-
-pub a_sign_is_not : size_said (codes "+1") ≡ None
-unfolding digits
-a_sign_is_not = refl
-
-pub zeros_in_front_are_not : size_said (codes "01") ≡ None
-unfolding digits
-zeros_in_front_are_not = refl
-
-pub the_greatest_seed_is_said : number_said 399 (codes "399") ≡ Some 399
-unfolding digits
-the_greatest_seed_is_said = refl
-
-pub a_greater_seed_is_not : number_said 399 (codes "400") ≡ None
-a_greater_seed_is_not = refl
-
-pub a_seed_with_zeros_is_not : number_said 399 (codes "007") ≡ None
-unfolding digits
-a_seed_with_zeros_is_not = refl
+seeds_are_told = refl

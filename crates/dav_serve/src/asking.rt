@@ -4,28 +4,22 @@ ghost use Rattle.dav_io.specs.Outside.{Stream};
 ghost use Rattle.dav_wire.specs.BodyReading.{ReadsOn};
 ghost use Rattle.dav_wire.specs.Reading.{sending, Pending};
 ghost use Rattle.dav_wire.specs.Writing.{Pushes};
-ghost use Rattle.dav_serve.specs.Next.{IsEmptiedBy, ReadsNext, next_by as the_next_by, over_with};
+ghost use Rattle.http.specs.Request.{body_of, head_of};
+ghost use Rattle.dav_serve.specs.Next.{HasBodyOf, IsEmptiedBy, ReadsNext, next_by as the_next_by, over_with};
 ghost use Rattle.dav_serve.specs.Serving.{IsWanting};
 
 use dav_io::{Client, Octets, Sink};
 use dav_wire::{
     BodyRead, Flaw, Found, Input, Output, ReadError, announced_by, fill_flushing, read_body,
 };
-use http::request::Parts;
+use http::Request;
 use std::alloc::Global;
 
-/// A request that was read: its head and its body.
-#[derive(Drop)]
-pub struct Message {
-    pub parts: Parts,
-    pub body: Octets,
-}
-
 /// What comes next in an input.
-#[derive(Drop)]
+#[derive(Clone, Copy, Debug, PartialEq, Eq)]
 pub enum Next {
     /// A whole request, which was passed.
-    Whole(Message),
+    Whole,
     /// No request can stand there: this is owed.
     Refused(Flaw),
     /// The input is over.
@@ -34,12 +28,17 @@ pub enum Next {
     Unfinished,
 }
 
-// What comes next, by the parts of a head and what came of reading the body behind it.
-fn next_by(parts: Parts, read: BodyRead) -> Next
-    ensures { result ≡ the_next_by parts read }
+// What comes next behind the head of a request, by what came of reading its body, which the request gets.
+fn next_by(request: &mut Request<Octets>, read: BodyRead) -> Next
+    ensures next { result ≡ the_next_by read }
+    ensures head { head_of request.new ≡ head_of request.old }
+    ensures body { HasBodyOf read (body_of request.new) }
 {
     match read {
-        BodyRead::Whole(body) => Next::Whole(Message { parts, body }),
+        BodyRead::Whole(body) => {
+            *request.body_mut() = body;
+            Next::Whole
+        }
         BodyRead::Refused(flaw) => Next::Refused(flaw),
         BodyRead::Ended => Next::Unfinished,
     }
@@ -55,15 +54,17 @@ fn at_end(input: &Input) -> Next
     Next::Unfinished
 }
 
-/// Reads the next request with its body: from what is held, and then from what the client gives, a call at a time.
-/// Before the client is asked, all that waits for the sink is given to it (RFC 9112, sections 2, 6 and 7.1). What was
-/// passed of a request that isn't whole is gone, so nothing is read behind an error.
+/// Reads the next request with its body: from what is held, and then from what the client gives, a call at a time. It
+/// takes the place of what `request` had, which may have anything where none came whole. Before the client is asked,
+/// all that waits for the sink is given to it (RFC 9112, sections 2, 6 and 7.1). What was passed of a request that
+/// isn't whole is gone, so nothing is read behind an error.
 pub fn next_message<S: Client<K>, K: Sink>(
     alloc: Global,
     input: &mut Input,
     source: &mut S,
     output: &mut Output,
     sink: &mut K,
+    request: &mut Request<Octets>,
 ) -> Result<Next, ReadError>
     requires ready { (passed : List ℕ) (kept : Pending) (left written : Stream) (later : List ℕ)
         → ReadsOn (S.stream source.old) input.old passed kept left → IsWanting (passed ++ kept.bytes)
@@ -71,16 +72,17 @@ pub fn next_message<S: Client<K>, K: Sink>(
         → S.may source.old left written }
     ensures stays { (left written : Stream) → S.may source.old left written → S.may source.new left written }
     ensures within { input.old.taken ≤ 2 ^ 60 }
-    ensures reads { ReadsNext (S.stream source.old) input.old result input.new (S.stream source.new) }
+    ensures reads { ReadsNext (S.stream source.old) input.old result request.new input.new
+        (S.stream source.new) }
     ensures sends { Pushes (K.stream sink.old) output.old [] (sending result) output.new (K.stream sink.new) }
     ensures emptied { IsEmptiedBy result output.new }
 {
     'heads: loop {
-        match input.next_head(alloc) {
-            Ok(Found::Whole(parts)) => {
-                let announced = announced_by(&parts);
+        match input.next_head(alloc, request) {
+            Ok(Found::Whole) => {
+                let announced = announced_by(request);
                 return match read_body(alloc, announced, input, source, output, sink) {
-                    Ok(read) => Ok(next_by(parts, read)),
+                    Ok(read) => Ok(next_by(request, read)),
                     Err(error) => Err(error),
                 };
             }

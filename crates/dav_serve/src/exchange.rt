@@ -14,7 +14,6 @@ use dav_handler::{Answer, Player, Remember};
 use dav_io::{Field, Moment, NoMemory, Octets, Sink};
 use dav_wire::{Framing, Output, asks_close, framing, is_old, push_head, says_close, takes_chunks};
 use http::Request;
-use http::request::Parts;
 use std::alloc::Global;
 
 /// How an exchange ended.
@@ -39,25 +38,25 @@ pub struct Manner {
     pub chunks: bool,
 }
 
-/// How a request with this head is answered.
-pub fn manner_of(parts: &Parts) -> Manner
-    ensures closing { ClosesAfter parts.now result.closing }
-    ensures chunks { result.chunks ≡ the_takes_chunks parts.now }
+/// How a request is answered, by its head.
+pub fn manner_of(request: &Request<Octets>) -> Manner
+    ensures closing { ClosesAfter (head_of request.now) result.closing }
+    ensures chunks { result.chunks ≡ the_takes_chunks (head_of request.now) }
 {
     Manner {
-        closing: closes_after(parts),
-        chunks: takes_chunks(parts),
+        closing: closes_after(request),
+        chunks: takes_chunks(request),
     }
 }
 
 // Whether the connection closes behind the answer, whatever that is.
-fn closes_after(parts: &Parts) -> bool
-    ensures { ClosesAfter parts.now result }
+fn closes_after(request: &Request<Octets>) -> bool
+    ensures { ClosesAfter (head_of request.now) result }
 {
-    if is_old(parts.version) {
+    if is_old(request.version()) {
         return true;
     }
-    asks_close(&parts.headers)
+    asks_close(request.headers())
 }
 
 /// Memory that is used for one answer after the other.

@@ -1,5 +1,6 @@
 // Serving the requests of a source, one after the other.
 ghost use Rattle.std.specs.Prelude.{◌≡◌, ◌++◌, IfOk, OnErr, [], false};
+ghost use Rattle.http.specs.Request.{body_of, head_of};
 ghost use Rattle.dav_handler.specs.Player.{stage_of};
 ghost use Rattle.dav_local.specs.Shown.{knowledge_of};
 ghost use Rattle.dav_wire.specs.Answers.{refusal_text as the_refusal_text};
@@ -9,23 +10,24 @@ ghost use Rattle.dav_serve.specs.Serving.{HoldsSoFar, EndsBy, ServedPartly, Star
 ghost use Rattle.dav_serve.specs.Stages.{outlet_of, outside_of, work_of};
 ghost use Rattle.dav_serve.specs.Words.{set_by, settings_by};
 
-use crate::asking::{Message, Next, next_message};
+use crate::asking::{Next, next_message};
 use crate::ending::Ending;
 use crate::exchange::{Ended, Spare, exchange, manner_of};
 use crate::words::Options;
 use dav_core::Disk;
 use dav_handler::{LocalFs, Player, Remember, Settings};
-use dav_io::{Client, Clock, Moment, NoMemory, Sink};
+use dav_io::{Client, Clock, Moment, NoMemory, Octets, Sink};
 use dav_wire::{Flaw, Input, Output, ReadError, refusal_text};
 use http::Request;
 use std::alloc::Global;
 
-// What was taken from the source and not yet read, what waits for the sink, and memory for the next answer; and what
-// memory is taken from.
+// What was taken from the source and not yet read, the request that was read last, what waits for the sink, and memory
+// for the next answer; and what memory is taken from. Each request is read in place of the one before.
 #[derive(Drop)]
 struct Held {
     alloc: Global,
     input: Input,
+    request: Request<Octets>,
     output: Output,
     spare: Spare,
 }
@@ -46,6 +48,7 @@ fn none_held(alloc: Global) -> Result<Held, NoMemory>
     Ok(Held {
         alloc,
         input,
+        request: Request::new(alloc, Octets::empty(alloc)),
         output,
         spare: Spare::new(alloc),
     })
@@ -69,27 +72,24 @@ fn player_over<D: Disk + Drop, R: Remember + Drop>(
     Player::over(alloc, settings, store)
 }
 
-// Answers a request by a player, which starts over for it, so that no count of replies ever runs out. What held the
-// request's fields goes back to the input.
+// Answers the request that was read, by a player that starts over for it, so that no count of replies ever runs out.
+// The memory of the request's body is let go.
 fn answer<K: Sink, D: Disk, R: Remember>(
     player: &mut Player<D, R>,
     held: &mut Held,
     sink: &mut K,
     now: Moment,
-    message: Message,
 ) -> Result<Ended, NoMemory>
     ensures input { held.new.input ≡ held.old.input }
     ensures loan { D.loan player.new.store.disk ≡ D.loan player.old.store.disk }
-    ensures ends { IfOk result (λ ended. Exchanges (IsAnswerTo message.parts message.body now)
+    ensures ends { IfOk result (λ ended. Exchanges (IsAnswerTo (head_of held.old.request) (body_of held.old.request) now)
         (work_of (K.stream sink.old) held.old.output (renewed (stage_of player.old))) ended
         (work_of (K.stream sink.new) held.new.output (stage_of player.new))) }
-    ensures memory { OnErr result (MemoryStopped (IsAnswerTo message.parts message.body now)
+    ensures memory { OnErr result (MemoryStopped (IsAnswerTo (head_of held.old.request) (body_of held.old.request) now)
         (work_of (K.stream sink.old) held.old.output (renewed (stage_of player.old)))
         (outlet_of (K.stream sink.new) held.new.output) (stage_of player.new).at) }
 {
-    let manner = manner_of(&message.parts);
-    let Message { parts, body } = message;
-    let request = Request::from_parts(parts, body);
+    let manner = manner_of(&held.request);
     player.renew();
     let ended = exchange(
         &mut held.spare,
@@ -98,10 +98,9 @@ fn answer<K: Sink, D: Disk, R: Remember>(
         sink,
         now,
         manner,
-        &request,
+        &held.request,
     );
-    let (parts, _) = request.into_parts();
-    held.input.take_back(parts.headers);
+    *held.request.body_mut() = Octets::empty(held.alloc);
     ended
 }
 
@@ -152,10 +151,17 @@ fn answer_all<S: Client<K>, K: Sink, D: Disk, R: Remember, C: Clock>(
         (outside_of (S.stream source.new) (K.stream sink.new) (stage_of player.new).at)) }
 {
     'requests: loop {
-        match next_message(held.alloc, &mut held.input, source, &mut held.output, sink) {
-            Ok(Next::Whole(message)) => {
+        match next_message(
+            held.alloc,
+            &mut held.input,
+            source,
+            &mut held.output,
+            sink,
+            &mut held.request,
+        ) {
+            Ok(Next::Whole) => {
                 let now = clock.now();
-                match answer(player, held, sink, now, message) {
+                match answer(player, held, sink, now) {
                     Ok(Ended::Open) => {}
                     Ok(Ended::Closed) => return Ok(finish(&mut held.output, sink, Ending::Closed)),
                     Ok(Ended::SinkFailed) => return Ok(Ending::SinkFailed),

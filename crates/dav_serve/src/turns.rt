@@ -28,10 +28,7 @@ pub fn poll_turn<D: Disk, R: Remember>(
         Ok(_) => {}
         Err(error) => return Err(error),
     }
-    match player.poll_over(body, spare) {
-        Ok(answer) => Ok(answer),
-        Err(error) => Err(error),
-    }
+    player.poll_over(body, spare)
 }
 
 /// A turn of the outside, a purge and a request.
@@ -54,8 +51,5 @@ pub fn request_turn<D: Disk, R: Remember>(
         Err(error) => return Err(error),
     }
     let _purged = player.purge(now);
-    match player.request(request, now) {
-        Ok(reply) => Ok(reply),
-        Err(error) => Err(error),
-    }
+    player.request(request, now)
 }

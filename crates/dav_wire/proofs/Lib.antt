@@ -5,6 +5,7 @@ pub mod FieldLemmas
 pub mod HeadLemmas
 pub mod HeadsReadBack
 pub mod Refusals
+pub mod InTurn
 pub mod RequestLemmas
 pub mod Holding
 pub mod Pushing

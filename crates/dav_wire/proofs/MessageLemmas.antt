@@ -1,5 +1,5 @@
 -- Messages: at most one stands at a place, and it stays.
-use Rattle.std.proofs.Common.{◌≡◌, ℕ, List, [], ◌∷◌, ◌++◌, refl, sym, ap₂, ◌∙◌, subst}
+use Rattle.std.proofs.Common.{◌≡◌, ℕ, List, [], ◌++◌, sym, ap₂, ◌∙◌, subst}
 use Rattle.httparse.specs.Grammar.{RequestHead}
 use Rattle.dav_wire.specs.Announced.{announces}
 use Rattle.dav_wire.specs.Bodies.{IsBody, BodyRefusal}
@@ -9,6 +9,7 @@ use Rattle.dav_wire.specs.declared.next.Flaw.{Flaw}
 use Rattle.dav_wire.proofs.BodyLaws.{bodies_are_one, bodies_stay, body_refusal_stays, body_refusal_has_none, body_flaws_are_one, unfinished_body_none, unfinished_body_not_refused}
 use Rattle.dav_wire.proofs.RequestLemmas.{request_stays, request_is_one, refusal_stays, refusal_has_none, unfinished_none, unfinished_refused, end_has_none}
 use Rattle.dav_wire.proofs.RequestLemmas as requests
+use Rattle.dav_wire.proofs.InTurn.{in_turn_are_one, in_turn_join}
 
 pub message_stays : (left more : List ℕ) (message : Message) (rest : List ℕ) → IsMessage left message rest
     → IsMessage (left ++ more) message (rest ++ more)
@@ -74,20 +75,11 @@ unfinished_message_refused left flaw (open_body head behind request still) (refu
 
 pub messages_join : (left mid rest : List ℕ) (messages more : List Message) → Messages left messages mid → Messages mid more rest
     → Messages left (messages ++ more) rest
-messages_join left mid rest [] more a b = subst (λ (x : List ℕ). Messages x more rest) a b
-messages_join left mid rest (message ∷ messages) more (after, first, others) b = (after, first, messages_join after mid rest messages more others b)
+messages_join = in_turn_join IsMessage
 
 pub messages_are_one : (left rest behind : List ℕ) (messages others : List Message) → Messages left messages rest → HasNoMessage rest
     → Messages left others behind → HasNoMessage behind → (messages ≡ others) × (rest ≡ behind)
-messages_are_one left rest behind [] [] a none b nor = (refl, a ∙ sym b)
-messages_are_one left rest behind [] (other ∷ others) a none (after, first, later) nor =
-    absurd (none other after (subst (λ (x : List ℕ). IsMessage x other after) (sym a) first))
-messages_are_one left rest behind (message ∷ messages) [] (after, first, later) none b nor =
-    absurd (nor message after (subst (λ (x : List ℕ). IsMessage x message after) (sym b) first))
-messages_are_one left rest behind (message ∷ messages) (other ∷ others) (after, first, later) none (then, second, more) nor =
-    let same = message_is_one left message other after then first second in
-    let rests = messages_are_one then rest behind messages others (subst (λ (x : List ℕ). Messages x messages rest) same.1 later) none more nor in
-    (ap₂ (λ (x : Message) (xs : List Message). x ∷ xs) same.0 rests.0, rests.1)
+messages_are_one = in_turn_are_one IsMessage message_is_one
 
 pub end_has_no_message : HasNoMessage []
 end_has_no_message message rest m = end_has_none message.head m.behind m.request

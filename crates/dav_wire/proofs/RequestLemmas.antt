@@ -1,5 +1,5 @@
 -- A head that is whole stays the head, and what is refused stays refused, whatever follows.
-use Rattle.std.proofs.Common.{◌≡◌, ℕ, ◌+◌, ◌-◌, ◌≤◌, List, [], ◌∷◌, ◌++◌, length, take, refl, sym, ap, ap₂, ◌∙◌, subst, append_assoc, arith, inl, inr}
+use Rattle.std.proofs.Common.{◌≡◌, ℕ, ◌+◌, ◌-◌, ◌≤◌, List, [], ◌∷◌, ◌++◌, length, take, sym, ap, ◌∙◌, subst, append_assoc, arith, inl, inr}
 use Rattle.std.proofs.lemmas.List.{take-append-le, length-append}
 use Rattle.std.proofs.Math.Seq.{take-append-add}
 use Rattle.http_uri.specs.Uri.{Spells, SpellsNone, uri_scheme, uri_authority, uri_data}
@@ -7,6 +7,7 @@ use Rattle.http_uri.specs.declared.uri.Uri.{Uri as Target}
 use Rattle.httparse.specs.Grammar.{RequestHead, print_request, print_blank, print_version, print_end, print_section, HasNoRequest, NeverHasRequest, MayBecomeRequest, EndsInTarget}
 use Rattle.httparse.specs.Spans.{RequestOverflows, RequestExceeds}
 use Rattle.httparse.proofs.GrammarLemmas.{request_unique, ReadsRequest-append, print_request-append}
+use Rattle.dav_wire.proofs.InTurn.{in_turn_are_one, in_turn_join}
 use Rattle.dav_wire.specs.Requests.{IsRequest, IsUnfinished, Requests, HasNone, EitherWay, Refusal, never, long, many, target}
 
 never_more : (buf more : List ℕ) → NeverHasRequest buf → NeverHasRequest (buf ++ more)
@@ -82,20 +83,11 @@ unfinished_refused left u (target head rest reads none) = absurd (u.none head re
 
 pub requests_join : (left mid rest : List ℕ) (heads more : List RequestHead) → Requests left heads mid → Requests mid more rest
     → Requests left (heads ++ more) rest
-requests_join left mid rest [] more a b = subst (λ (x : List ℕ). Requests x more rest) a b
-requests_join left mid rest (head ∷ heads) more (after, first, others) b = (after, first, requests_join after mid rest heads more others b)
+requests_join = in_turn_join IsRequest
 
 pub requests_are_one : (left rest behind : List ℕ) (heads others : List RequestHead) → Requests left heads rest → HasNone rest
     → Requests left others behind → HasNone behind → (heads ≡ others) × (rest ≡ behind)
-requests_are_one left rest behind [] [] a none b nor = (refl, a ∙ sym b)
-requests_are_one left rest behind [] (other ∷ others) a none (after, first, later) nor =
-    absurd (none other after (subst (λ (x : List ℕ). IsRequest x other after) (sym a) first))
-requests_are_one left rest behind (head ∷ heads) [] (after, first, later) none b nor =
-    absurd (nor head after (subst (λ (x : List ℕ). IsRequest x head after) (sym b) first))
-requests_are_one left rest behind (head ∷ heads) (other ∷ others) (after, first, later) none (then, second, more) nor =
-    let same = request_is_one left head other after then first second in
-    let rests = requests_are_one then rest behind heads others (subst (λ (x : List ℕ). Requests x heads rest) same.1 later) none more nor in
-    (ap₂ (λ (x : RequestHead) (xs : List RequestHead). x ∷ xs) same.0 rests.0, rests.1)
+requests_are_one = in_turn_are_one IsRequest request_is_one
 
 -- a head has at least the bytes of its method
 pub end_has_none : HasNone []

@@ -324,6 +324,10 @@ pub record Digits (text : List ℕ) (count : ℕ) : Type 0 where
   pub all : AllDigits 16 (take count text)
   pub ends : count < length text → 16 ≤ digit_value (get_or text count 0)
 
+pub counted : {text : List ℕ} {count : ℕ} → count ≤ length text → AllDigits 16 (take count text) → (count < length text → 16 ≤ digit_value (get_or text count 0))
+    → Digits text count
+counted within all ends = record { within = within; all = all; ends = ends }
+
 pub at_long : (text : List ℕ) (count : ℕ) → Digits text count → 16 < count → NeverHasSize text
 at_long text count digits long =
     let within = digits.within in
@@ -348,6 +352,11 @@ pub record Split (text behind : List ℕ) (count len : ℕ) : Type 0 where
   pub behind_is : behind ≡ drop count text
   pub within : len ≤ length behind
   pub ends : EndsExtension behind len
+
+pub split_up : {text behind : List ℕ} {count len : ℕ} → Digits text count → count ≤ 16 → count ≢ length text → count ≢ 0 → behind ≡ drop count text → len ≤ length behind
+    → EndsExtension behind len → Split text behind count len
+split_up digits few not_all not_none behind_is within ends =
+    record { digits = digits; few = few; not_all = not_all; not_none = not_none; behind_is = behind_is; within = within; ends = ends }
 
 begins_at : (text behind : List ℕ) (count len : ℕ) → Split text behind count len → Begins behind
 begins_at text behind count len split =

@@ -12,7 +12,6 @@ use Rattle.httparse.specs.Grammar.{Field, field_value, RequestHead, print_reques
 use Rattle.httparse.specs.Spans.{header_bytes}
 use Rattle.httparse.specs.declared.spans.HeaderSpan.{HeaderSpan}
 use Rattle.dav_wire.specs.Requests.{Refusal}
-use Rattle.dav_wire.specs.declared.head.ReadHead.{ReadHead}
 use Rattle.dav_wire.specs.declared.head.PartError.{PartError}
 use Rattle.dav_wire.specs.declared.head.PartError.TheVariants.{Refused, NoMemory}
 
@@ -51,10 +50,10 @@ pub record IsReadAt (buf : List ℕ) (len : ℕ) (parts : Parts) : Type 0 where
   pub few : length head.fields ≤ 256
   pub parts_are : IsRead head parts
 
--- ---- what is read at the front of a buffer of at most 65,536 bytes
+-- ---- what is read at the front of a buffer of at most 65,536 bytes: how many of them a head takes, and its parts
 
-abbrev pub Parses : List ℕ → Result (Option ReadHead) PartError → Type 0
-Parses buf (Ok (Some read)) = IsReadAt buf read.len read.parts
-Parses buf (Ok None) = HasNoRequest buf × MayBecomeRequest buf
-Parses buf (Err Refused) = Refusal buf
-Parses buf (Err NoMemory) = Unit {0}
+abbrev pub Parses : List ℕ → Result (Option ℕ) PartError → Parts → Type 0
+Parses buf (Ok (Some len)) parts = IsReadAt buf len parts
+Parses buf (Ok None) parts = HasNoRequest buf × MayBecomeRequest buf
+Parses buf (Err Refused) parts = Refusal buf
+Parses buf (Err NoMemory) parts = Unit {0}

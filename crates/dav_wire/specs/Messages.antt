@@ -2,11 +2,11 @@
 --
 -- At a place there is nothing (the bytes are over), a message, a refusal (400 or 413 is owed), or a message that isn't
 -- finished (nothing is owed).
-use Rattle.std.specs.Prelude.{◌≡◌, ℕ, List, [], ◌∷◌}
+use Rattle.std.specs.Prelude.{◌≡◌, ℕ, List}
 use Rattle.httparse.specs.Grammar.{RequestHead}
 use Rattle.dav_wire.specs.Announced.{announces}
 use Rattle.dav_wire.specs.Bodies.{IsBody, BodyRefusal, IsBodyUnfinished}
-use Rattle.dav_wire.specs.Requests.{IsRequest, Refusal, IsUnfinished}
+use Rattle.dav_wire.specs.Requests.{InTurn, IsRequest, Refusal, IsUnfinished}
 use Rattle.dav_wire.specs.declared.next.Flaw.{Flaw}
 use Rattle.dav_wire.specs.declared.next.Flaw.TheVariants.{Malformed}
 
@@ -21,10 +21,9 @@ pub record IsMessage (left : List ℕ) (message : Message) (rest : List ℕ) : T
   pub request : IsRequest left message.head behind
   pub body : IsBody (announces message.head) behind message.body rest
 
--- The messages at the front, one after the other, and what follows them.
+-- the messages at the front, one after the other
 abbrev pub Messages : List ℕ → List Message → List ℕ → Type 0
-Messages left [] rest = rest ≡ left
-Messages left (message ∷ messages) rest = (after : List ℕ) × IsMessage left message after × Messages after messages rest
+Messages left messages rest = InTurn IsMessage left messages rest
 
 -- no message stands at the front
 abbrev pub HasNoMessage : List ℕ → Type 0

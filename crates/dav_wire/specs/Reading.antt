@@ -3,6 +3,7 @@ use Rattle.std.specs.Prelude.{◌≡◌, ℕ, ◌+◌, ◌<◌, ◌≤◌, ◌^�
 use Rattle.dav_io.specs.Counts.{Rose, one_more}
 use Rattle.dav_io.specs.Told.{Both}
 use Rattle.dav_io.specs.Outside.{Stream}
+use Rattle.http.specs.declared.request.Parts.{Parts}
 use Rattle.httparse.specs.Grammar.{RequestHead, HasNoRequest, MayBecomeRequest}
 use Rattle.dav_io.specs.declared.failure.NoMemory.{NoMemory}
 use Rattle.dav_io.specs.declared.failure.Failed.{Failed as SinkFailed}
@@ -18,13 +19,13 @@ pub record Pending : Type 0 where
   pub bytes : List ℕ
   pub taken : ℕ
 
--- What stands at the front of the bytes that are held; only a request is passed. Otherwise more bytes are wanted: of
--- these at most 65,536 no front is a head.
-abbrev pub Finds : List ℕ → Result Found NoMemory → List ℕ → Type 0
-Finds held (Ok (Whole parts)) rest = (head : RequestHead) × IsRequest held head rest × IsRead head parts
-Finds held (Ok FoundRefused) rest = Refusal held × (rest ≡ held)
-Finds held (Ok More) rest = (rest ≡ held) × (length held ≤ 65536) × HasNoRequest held × MayBecomeRequest held
-Finds held (Err e) rest = rest ≡ held
+-- What stands at the front of the bytes that are held; only a request is passed, and the parts are its. Otherwise more
+-- bytes are wanted: of these at most 65,536 no front is a head.
+abbrev pub Finds : List ℕ → Result Found NoMemory → Parts → List ℕ → Type 0
+Finds held (Ok Whole) parts rest = (head : RequestHead) × IsRequest held head rest × IsRead head parts
+Finds held (Ok FoundRefused) parts rest = Refusal held × (rest ≡ held)
+Finds held (Ok More) parts rest = (rest ≡ held) × (length held ≤ 65536) × HasNoRequest held × MayBecomeRequest held
+Finds held (Err e) parts rest = rest ≡ held
 
 -- n bytes were taken behind those that are held
 pub record Behind (held : Pending) (n : ℕ) (kept : Pending) : Type 0 where

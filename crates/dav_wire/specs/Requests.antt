@@ -35,10 +35,14 @@ pub record IsUnfinished (left : List ℕ) : Type 0 where
   pub none : HasNoRequest left
   pub may : MayBecomeRequest left
 
--- The requests at the front, one after the other, and what follows them.
+-- Things of a kind stand at the front, one after the other. What follows them is the rest.
+abbrev pub InTurn : {H : Type 0} → (List ℕ → H → List ℕ → Type 0) → List ℕ → List H → List ℕ → Type 0
+InTurn Is left [] rest = rest ≡ left
+InTurn Is left (x ∷ xs) rest = (after : List ℕ) × Is left x after × InTurn Is after xs rest
+
+-- the requests at the front
 abbrev pub Requests : List ℕ → List RequestHead → List ℕ → Type 0
-Requests left [] rest = rest ≡ left
-Requests left (head ∷ heads) rest = (after : List ℕ) × IsRequest left head after × Requests after heads rest
+Requests left heads rest = InTurn IsRequest left heads rest
 
 -- no request stands at the front
 abbrev pub HasNone : List ℕ → Type 0

@@ -1,5 +1,6 @@
 //! Which body the head of a request announces.
 ghost use Rattle.std.specs.Prelude.{◌≡◌, ◌≤◌, ◌&&◌, false, [], IsTrue, if◌then◌else◌, codes, length};
+ghost use Rattle.http.specs.Request.{head_of};
 ghost use Rattle.std.specs.Char.{is_ascii_digit};
 ghost use Rattle.std.specs.List.{list_all};
 ghost use Rattle.std.specs.Str.Parse.{digits_value};
@@ -7,9 +8,9 @@ ghost use Rattle.dav_wire.specs.Announced.{announced_by as the_announced_by, bod
 ghost use Rattle.dav_wire.specs.Fields.{values_of};
 ghost use Rattle.dav_wire.specs.declared.announcing.Announced.TheVariants.{Sized, Unclear};
 
+use dav_io::Octets;
 use http::header::{CONTENT_LENGTH, TRANSFER_ENCODING};
-use http::request::Parts;
-use http::{HeaderMap, Version};
+use http::{HeaderMap, Request, Version};
 
 /// The body that the head of a request announces (RFC 9112, section 6.3).
 #[derive(Clone, Copy, Debug, PartialEq, Eq)]
@@ -27,24 +28,24 @@ pub enum Announced {
 // The most digits of a length.
 const MOST_DIGITS: usize = 19;
 
-/// The body that these parts of a head announce. Several fields `content-length` are the same text, of 1 to 19 decimal
+/// The body that the head of a request announces. Several fields `content-length` are the same text, of 1 to 19 decimal
 /// digits; a field `transfer-encoding` is the only one, `chunked` in any case, in version 1.1, and without a
 /// `content-length`.
-pub fn announced_by(parts: &Parts) -> Announced
-    ensures { result ≡ the_announced_by parts.now }
+pub fn announced_by(request: &Request<Octets>) -> Announced
+    ensures { result ≡ the_announced_by (head_of request.now) }
 {
-    let mut codings = parts.headers.get_all(&TRANSFER_ENCODING).iter();
+    let mut codings = request.headers().get_all(&TRANSFER_ENCODING).iter();
     let Some(coding) = codings.next() else {
-        return by_lengths(&parts.headers);
+        return by_lengths(request.headers());
     };
     if codings.next().is_some() {
         return Announced::Unclear;
     }
-    let mut sizes = parts.headers.get_all(&CONTENT_LENGTH).iter();
+    let mut sizes = request.headers().get_all(&CONTENT_LENGTH).iter();
     if sizes.next().is_some() {
         return Announced::Unclear;
     }
-    if parts.version == Version::HTTP_11 && is_chunked(coding.as_bytes()) {
+    if request.version() == Version::HTTP_11 && is_chunked(coding.as_bytes()) {
         return Announced::InChunks;
     }
     Announced::Unclear

@@ -1,5 +1,5 @@
 //! The bytes of answers.
-ghost use Rattle.std.specs.Prelude.{◌≡◌, ◌+◌, ◌%◌, ◌++◌, ◌≤◌, length, IfOk, IfSome, OnOk};
+ghost use Rattle.std.specs.Prelude.{◌≡◌, ◌+◌, ◌%◌, ◌++◌, ◌≤◌, bytes_eq, length, IfOk, IfSome, OnOk};
 ghost use Rattle.dav_wire.specs.Answers.{phrase, three_digits, status_line, field_lines, has_close_field, is_close_field, place as the_place, with_framing, written_fields, head_text, bad_request_text as refusal, refusal_text as the_refusal_text};
 ghost use Rattle.dav_wire.specs.Framing.{framing as the_framing, has_length as length_given, is_bodiless as bodiless};
 
@@ -49,7 +49,15 @@ fn is_bodiless(status: u16) -> bool
 fn has_length(fields: &[Field]) -> bool
     ensures { result ≡ length_given fields.now }
 {
-    fields.iter().any(|field| field.name.as_slice() == b"content-length".as_slice())
+    fields.iter().any(|field| is_named(field, "content-length"))
+}
+
+// Has a field this name? Most have another length, so they are told apart without a call.
+fn is_named(field: &Field, name: &str) -> bool
+    ensures { result ≡ bytes_eq field.now.name name.now }
+{
+    let own = field.name.as_str();
+    own.len() == name.len() && own == name
 }
 
 /// The head of an answer. `connection: close` is put in its place where the answer closes and the fields don't say so,
@@ -126,7 +134,7 @@ pub fn says_close(fields: &[Field]) -> bool
 fn is_close(field: &Field) -> bool
     ensures { result ≡ is_close_field field.now }
 {
-    field.name.as_str() == "connection" && field.value.as_slice() == b"close".as_slice()
+    is_named(field, "connection") && field.value.as_slice() == b"close".as_slice()
 }
 
 // Where a name has its place among the names.

@@ -1,5 +1,6 @@
 //! The head of a request, read from the front of a buffer.
 ghost use Rattle.std.specs.Prelude.{◌≡◌, ◌≤◌, ◌<◌, [], map, length, All, Err, IfOk, OnOk};
+ghost use Rattle.http.specs.Request.{head_of};
 ghost use Rattle.http_header.specs.FieldName.{IsFieldName};
 ghost use Rattle.http_header.specs.FieldValue.{IsFieldValue, plain_value};
 ghost use Rattle.http_header.specs.HeaderMap.{append, append_all, value_count};
@@ -11,23 +12,14 @@ ghost use Rattle.dav_wire.specs.Requests.{Refusal};
 ghost use Rattle.dav_wire.specs.declared.head.PartError.TheVariants.{Refused};
 
 use bytes::Bytes;
-use dav_io::NoMemory;
+use dav_io::{NoMemory, Octets};
 use http::header::{HeaderMapError, HeaderName, HeaderNameError, HeaderValue};
 use http::method::MethodError;
-use http::request::Parts;
-use http::{HeaderMap, Method, Uri, Version};
+use http::{HeaderMap, Method, Request, Uri, Version};
 use http_uri::UriError;
 use httparse::Status;
 use httparse::spans::{HeaderSpan, RequestSpans, Span, parse_request};
 use std::alloc::Global;
-use std::mem;
-
-// A head, and how many bytes it takes.
-#[derive(Drop)]
-pub struct ReadHead {
-    pub parts: Parts,
-    pub len: usize,
-}
 
 // Why a part of a head was not read.
 #[derive(Clone, Copy, Debug, PartialEq, Eq, Drop)]
@@ -36,25 +28,23 @@ pub enum PartError {
     NoMemory,
 }
 
-// The head at the front of a buffer, or nothing where more bytes may make one. The fields of a head take the memory of
-// the spare map.
+// Reads the head at the front of a buffer into a request, in place of what that had, and answers how many bytes it takes;
+// or nothing where more bytes may make one. The memory of the fields that the request had is used again.
 pub fn read_head(
     alloc: Global,
     buf: &[u8],
     spans: &mut [HeaderSpan],
-    spare: &mut HeaderMap,
-) -> Result<Option<ReadHead>, PartError>
+    request: &mut Request<Octets>,
+) -> Result<Option<usize>, PartError>
     requires short { length buf.now ≤ 65536 }
     requires room { length spans.old ≡ 256 }
-    requires spare { spare.old ≡ [] }
-    ensures parses { Parses buf.now result }
-    ensures spare { spare.new ≡ [] }
+    ensures { Parses buf.now result (head_of request.new) }
 {
     match parse_request(buf, spans) {
         Ok(Status::Complete(head)) => {
             let len = head.len;
-            match read_parts(alloc, buf, spans, head, spare) {
-                Ok(parts) => Ok(Some(ReadHead { parts, len })),
+            match read_parts(alloc, buf, spans, head, request) {
+                Ok(()) => Ok(Some(len)),
                 Err(PartError::Refused) => Err(PartError::Refused),
                 Err(PartError::NoMemory) => Err(PartError::NoMemory),
             }
@@ -64,45 +54,45 @@ pub fn read_head(
     }
 }
 
-// The parts of a head, from where they stand in the buffer. What its target and its values say shares one copy of it.
+// Reads the parts of a head, from where they stand in the buffer, into a request. What its target and its values say
+// shares one copy of it.
 fn read_parts(
     alloc: Global,
     buf: &[u8],
     spans: &[HeaderSpan],
     head: RequestSpans,
-    spare: &mut HeaderMap,
-) -> Result<Parts, PartError>
+    request: &mut Request<Octets>,
+) -> Result<(), PartError>
     requires short { length buf.now ≤ 65536 }
     requires room { length spans.now ≤ 256 }
     requires within { IsRequestWithin buf.now spans.now head }
     requires complete { IsRequestOf buf.now spans.now head }
-    requires spare { spare.old ≡ [] }
-    ensures spare { spare.new ≡ [] }
-    ensures ok { IfOk result (IsReadAt buf.now head.len) }
+    ensures ok { OnOk result (IsReadAt buf.now head.len (head_of request.new)) }
     ensures refused { result ≡ Err Refused → Refusal buf.now }
 {
     let front = &buf[..head.len];
     let Ok(whole) = Bytes::copy_from_slice(alloc, front) else {
         return Err(PartError::NoMemory);
     };
-    let uri = match read_target(&whole, head.path) {
-        Ok(uri) => uri,
+    match read_target(&whole, head.path) {
+        Ok(uri) => *request.uri_mut() = uri,
         Err(error) => return Err(error),
-    };
-    let Ok(method) = read_method(alloc, head.method.of(buf)) else {
-        return Err(PartError::NoMemory);
-    };
-    let none = mem::replace(spare, HeaderMap::new(alloc));
-    let Ok(headers) = read_fields(alloc, front, &whole, &spans[..head.headers], none) else {
-        return Err(PartError::NoMemory);
-    };
-    let version = version(head.version);
-    Ok(Parts {
-        method,
-        uri,
-        version,
-        headers,
-    })
+    }
+    match read_method(alloc, head.method.of(buf)) {
+        Ok(method) => *request.method_mut() = method,
+        Err(_) => return Err(PartError::NoMemory),
+    }
+    *request.version_mut() = version(head.version);
+    match read_fields(
+        alloc,
+        front,
+        &whole,
+        &spans[..head.headers],
+        request.headers_mut(),
+    ) {
+        Ok(()) => Ok(()),
+        Err(_) => Err(PartError::NoMemory),
+    }
 }
 
 fn read_method(alloc: Global, word: &[u8]) -> Result<Method, NoMemory>
@@ -152,29 +142,28 @@ fn part_of(whole: &Bytes, span: Span) -> Result<Bytes, NoMemory>
     Ok(part)
 }
 
-// The fields of a head, in a map that has none yet. Their values share one copy of it.
+// Reads the fields of a head into a map, in place of those that it had. Their values share one copy of it.
 fn read_fields(
     alloc: Global,
     buf: &[u8],
     whole: &Bytes,
     spans: &[HeaderSpan],
-    none: HeaderMap,
-) -> Result<HeaderMap, NoMemory>
+    headers: &mut HeaderMap,
+) -> Result<(), NoMemory>
     requires copied { whole.now ≡ buf.now }
-    requires none { none ≡ [] }
     requires few { length spans.now ≤ 256 }
     requires within { All (IsHeaderWithin (length buf.now)) spans.now }
     requires fields { All (λ span. IsField (header_bytes buf.now span)) spans.now }
-    ensures { IfOk result (λ headers. headers ≡ append_all [] (map (kept_span buf.now) spans.now)) }
+    ensures { OnOk result (headers.new ≡ append_all [] (map (kept_span buf.now) spans.now)) }
 {
-    let mut headers = none;
+    headers.clear();
     if headers.reserve(spans.len()).is_err() {
         return Err(NoMemory);
     }
     for span in spans {
-        add_span(alloc, &mut headers, buf, whole, *span)?;
+        add_span(alloc, headers, buf, whole, *span)?;
     }
-    Ok(headers)
+    Ok(())
 }
 
 // Adds the field that two spans cover. Its value is a part of the copy.

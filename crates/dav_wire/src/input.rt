@@ -1,13 +1,14 @@
 //! The bytes of an input that were taken from its source and not yet passed.
 ghost use Rattle.std.specs.Prelude.{◌≡◌, ◌≤◌, ◌^◌, [], drop, length, IfOk};
 ghost use Rattle.dav_io.specs.Outside.{Stream};
+ghost use Rattle.http.specs.Request.{head_of};
 ghost use Rattle.dav_wire.specs.Reading.{Finds, Fills};
 
 use crate::buffer::{ask_at, move_front, take_at};
 use crate::head::{PartError, read_head};
 use crate::next::{Found, ReadError};
-use dav_io::{Client, NoMemory, Sink, Source};
-use http::HeaderMap;
+use dav_io::{Client, NoMemory, Octets, Sink, Source};
+use http::Request;
 use httparse::spans::{EMPTY_HEADER_SPAN, HeaderSpan};
 use std::alloc::Global;
 use std::marker::Model;
@@ -24,12 +25,11 @@ const MOST_FIELDS: usize = 256;
 const MOST_TAKEN: u64 = 1_152_921_504_606_846_976;
 
 /// The bytes that were taken from a source and not yet passed, and the number of all that were taken. The buffer is
-/// made once. A contract sees the two. Beside them it keeps a map of fields that was given back, for its memory.
+/// made once. A contract sees the two.
 #[derive(Drop)]
 pub struct Input {
     buffer: Vec<u8>,
     spans: Vec<HeaderSpan>,
-    spare: HeaderMap,
     start: usize,
     end: usize,
     taken: u64,
@@ -44,7 +44,7 @@ impl Model for Input {
     ghost view = { λ i. record { bytes = slice_range i.buffer.items i.start i.end; taken = i.taken } };
 
     ghost invariant = { λ i. (i.start ≤ i.end) × (i.end ≤ 65537) × (length i.buffer.items ≡ 65537)
-        × (length i.spans.items ≡ 256) × (i.spare ≡ []) × (i.taken ≤ 2 ^ 60) };
+        × (length i.spans.items ≡ 256) × (i.taken ≤ 2 ^ 60) };
 }
 
 impl Input {
@@ -55,7 +55,6 @@ impl Input {
         Ok(Input {
             buffer: vec![in alloc; 0; ROOM]?,
             spans: vec![in alloc; EMPTY_HEADER_SPAN; MOST_FIELDS]?,
-            spare: HeaderMap::new(alloc),
             start: 0,
             end: 0,
             taken: 0,
@@ -76,14 +75,6 @@ impl Input {
         ensures taken { self.new.taken ≡ self.old.taken }
     {
         self.start += count;
-    }
-
-    /// Takes back the fields of a request that was answered, so that the next one uses their memory.
-    pub fn take_back(&mut self, fields: HeaderMap)
-        ensures { self.new ≡ self.old }
-    {
-        self.spare = fields;
-        self.spare.clear();
     }
 
     /// Takes more bytes, in one call of the source, and answers how many. 0 is the end of the input.
@@ -139,19 +130,23 @@ impl Input {
         }
     }
 
-    /// What stands at the front of the bytes held. It asks no source. A whole head is passed; otherwise nothing
-    /// changes.
-    pub fn next_head(&mut self, alloc: Global) -> Result<Found, NoMemory>
-        ensures finds { Finds self.old.bytes result self.new.bytes }
+    /// What stands at the front of the bytes held. It asks no source. A whole head is passed, and read into the request
+    /// in place of what that had; otherwise no byte is passed, and the request may have anything.
+    pub fn next_head(
+        &mut self,
+        alloc: Global,
+        request: &mut Request<Octets>,
+    ) -> Result<Found, NoMemory>
+        ensures finds { Finds self.old.bytes result (head_of request.new) self.new.bytes }
         ensures taken { self.new.taken ≡ self.old.taken }
         ensures within { self.old.taken ≤ 2 ^ 60 }
     {
         let len = (self.end - self.start).min(LONGEST);
         let front = &self.buffer[self.start..self.start + len];
-        match read_head(alloc, front, &mut self.spans, &mut self.spare) {
-            Ok(Some(head)) => {
-                self.start += head.len;
-                Ok(Found::Whole(head.parts))
+        match read_head(alloc, front, &mut self.spans, request) {
+            Ok(Some(used)) => {
+                self.start += used;
+                Ok(Found::Whole)
             }
             Ok(None) => {
                 if len < self.end - self.start {

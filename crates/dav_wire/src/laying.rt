@@ -1,5 +1,5 @@
 // Laying the lines of fields into memory that is there.
-ghost use Rattle.std.specs.Prelude.{◌≡◌, ◌+◌, ◌-◌, ◌^◌, ◌++◌, ◌≤◌, length, min, take};
+ghost use Rattle.std.specs.Prelude.{◌≡◌, ◌+◌, ◌-◌, ◌^◌, ◌++◌, ◌≤◌, ◌∷◌, [], length, min, take};
 ghost use Rattle.dav_wire.specs.Answers.{field_line, field_lines as the_field_lines};
 
 use dav_io::Field;
@@ -16,6 +16,18 @@ fn lay(text: &mut [u8], at: usize, bytes: &[u8]) -> usize
     end
 }
 
+// Lays two bytes from a place on, and answers where they end. So no call is made for them.
+fn lay_two(text: &mut [u8], at: usize, first: u8, second: u8) -> usize
+    requires { at + 2 ≤ length text.old }
+    ensures end { result ≡ at + 2 }
+    ensures len { length text.new ≡ length text.old }
+    ensures laid { take result text.new ≡ take at text.old ++ first ∷ second ∷ [] }
+{
+    text[at] = first;
+    text[at + 1] = second;
+    at + 2
+}
+
 fn lay_field(text: &mut [u8], at: usize, field: &Field) -> usize
     requires { at + length (field_line field.now) ≤ length text.old }
     ensures end { result ≡ at + length (field_line field.now) }
@@ -23,9 +35,9 @@ fn lay_field(text: &mut [u8], at: usize, field: &Field) -> usize
     ensures laid { take result text.new ≡ take at text.old ++ field_line field.now }
 {
     let name = lay(text, at, field.name.as_slice());
-    let between = lay(text, name, b": ");
+    let between = lay_two(text, name, b':', b' ');
     let value = lay(text, between, field.value.as_slice());
-    lay(text, value, b"\r\n")
+    lay_two(text, value, b'\r', b'\n')
 }
 
 /// Lays the lines of fields from a place on, and answers where they end.

@@ -27,4 +27,4 @@ pub use input::Input;
 pub use next::{BodyRead, Flaw, Found, ReadError};
 pub use output::Output;
 pub use reading::fill_flushing;
-pub use request::{into_request, is_old, takes_chunks};
+pub use request::{is_old, takes_chunks};

@@ -5,14 +5,13 @@ ghost use Rattle.dav_wire.specs.declared.next.ReadError.{ReadError};
 ghost use Rattle.dav_wire.specs.declared.next.ReadError.TheVariants.{NoMemory as WithoutMemory};
 
 use dav_io::Octets;
-use http::request::Parts;
 use thiserror::Error;
 
 /// What stands at the front of the bytes that are held.
-#[derive(Drop)]
+#[derive(Clone, Copy, Debug, PartialEq, Eq)]
 pub enum Found {
     /// A whole head, which was passed.
-    Whole(Parts),
+    Whole,
     /// No request can stand there: 400 is owed.
     Refused,
     /// More bytes are wanted.

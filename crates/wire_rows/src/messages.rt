@@ -1,10 +1,10 @@
 //! Requests of an input with their bodies, one after the other. Nothing is given to the sink.
 use crate::cells::show_ends;
-use crate::requests::{Seen, error_word, next, source_of};
+use crate::requests::{Seen, error_word, next, show_target, source_of};
 use dav_io::{MemSink, MemSource, Octets};
 use dav_rows::Line;
 use dav_wire::{Announced, BodyRead, Flaw, Input, Output, ReadError, announced_by, read_body};
-use http::request::Parts;
+use http::Request;
 use std::alloc::Global;
 
 // What stands behind a head.
@@ -21,18 +21,17 @@ fn flaw_word(flaw: Flaw) -> &'static str {
     }
 }
 
-fn show_target(line: &mut Line, parts: &Parts) {
-    line.add(parts.method.as_str());
-    line.tell(" ", parts.uri.path());
-    line.add(" ");
-}
-
 // Adds the method and path of a request, and tells which body it announces; or a word where there is no request.
-fn announced(line: &mut Line, seen: Seen) -> Result<Announced, &'static str> {
+fn announced(
+    line: &mut Line,
+    seen: Seen,
+    request: &Request<Octets>,
+) -> Result<Announced, &'static str> {
     match seen {
-        Seen::Request(parts) => {
-            show_target(line, &parts);
-            Ok(announced_by(&parts))
+        Seen::Request => {
+            show_target(line, request);
+            line.add(" ");
+            Ok(announced_by(request))
         }
         Seen::Over(word) => Err(word),
     }
@@ -55,8 +54,10 @@ fn next_body(
     source: &mut MemSource,
     output: &mut Output,
     sink: &mut MemSink,
+    request: &mut Request<Octets>,
 ) -> Behind {
-    match announced(line, next(alloc, input, source)) {
+    let seen = next(alloc, input, source, request);
+    match announced(line, seen, request) {
         Ok(announced) => found_behind(read_body(alloc, announced, input, source, output, sink)),
         Err(word) => Behind::Over(word),
     }
@@ -71,8 +72,9 @@ fn show_messages(
     output: &mut Output,
     sink: &mut MemSink,
 ) {
+    let mut request = Request::new(alloc, Octets::empty(alloc));
     for _ in 0..99 {
-        match next_body(alloc, line, input, source, output, sink) {
+        match next_body(alloc, line, input, source, output, sink, &mut request) {
             Behind::Body(body) => {
                 show_ends(line, body.as_slice());
                 line.add("; ");

@@ -3,8 +3,7 @@ use crate::cells::{joined_of, show};
 use crate::outside::numbers;
 use dav_io::{MemSource, NoMemory, Octets};
 use dav_rows::{Line, word};
-use dav_wire::{Found, Input, ReadError, asks_close, into_request, is_old, takes_chunks};
-use http::request::Parts;
+use dav_wire::{Found, Input, ReadError, asks_close, is_old, takes_chunks};
 use http::{HeaderMap, Request};
 use std::alloc::Global;
 
@@ -12,9 +11,10 @@ use std::alloc::Global;
 const CALLS: usize = 100_000;
 
 /// What stands next in an input.
-#[derive(Drop)]
+#[derive(Clone, Copy)]
 pub enum Seen {
-    Request(Parts),
+    /// A request, which was read.
+    Request,
     Over(&'static str),
 }
 
@@ -28,11 +28,16 @@ pub fn error_word(error: ReadError) -> &'static str {
     }
 }
 
-/// The next head of an input.
-pub fn next(alloc: Global, input: &mut Input, source: &mut MemSource) -> Seen {
+/// Reads the next head of an input into a request.
+pub fn next(
+    alloc: Global,
+    input: &mut Input,
+    source: &mut MemSource,
+    request: &mut Request<Octets>,
+) -> Seen {
     for _ in 0..CALLS {
-        match input.next_head(alloc) {
-            Ok(Found::Whole(parts)) => return Seen::Request(parts),
+        match input.next_head(alloc, request) {
+            Ok(Found::Whole) => return Seen::Request,
             Ok(Found::Refused) => return Seen::Over("refused"),
             Ok(Found::More) => match input.fill(source) {
                 Ok(0) => return Seen::Over(end_of(input)),
@@ -74,37 +79,34 @@ fn show_fields(line: &mut Line, fields: &HeaderMap) {
 }
 
 // What a request asks of the connection and of the body.
-fn show_asked(line: &mut Line, parts: &Parts) {
-    let old = is_old(parts.version);
+fn show_asked(line: &mut Line, request: &Request<Octets>) {
+    let old = is_old(request.version());
     line.add(if old { " 1.0" } else { " 1.1" });
-    let closes = asks_close(&parts.headers);
+    let closes = asks_close(request.headers());
     line.add(if closes { " closes" } else { " stays" });
-    let chunks = takes_chunks(parts);
+    let chunks = takes_chunks(request);
     line.add(if chunks { " chunks" } else { " plain" });
 }
 
-// A request: its method and path.
-fn show_target(line: &mut Line, request: &Request<Octets>) {
+/// A request: its method and path.
+pub fn show_target(line: &mut Line, request: &Request<Octets>) {
     line.add(request.method().as_str());
     line.tell(" ", request.uri().path());
 }
 
-// Nothing may fail beside a request that is owned: each way out would let go of all its parts.
-fn show_request(alloc: Global, line: &mut Line, parts: Parts) {
-    let mut asked = Line::new(alloc);
-    show_asked(&mut asked, &parts);
-    let request = into_request(alloc, parts);
-    show_target(line, &request);
-    line.add(asked.as_str());
+fn show_request(line: &mut Line, request: &Request<Octets>) {
+    show_target(line, request);
+    show_asked(line, request);
     show_fields(line, request.headers());
     line.add("; ");
 }
 
 // The requests of a source, and how they end.
 fn show_requests(alloc: Global, line: &mut Line, input: &mut Input, source: &mut MemSource) {
+    let mut request = Request::new(alloc, Octets::empty(alloc));
     for _ in 0..99 {
-        match next(alloc, input, source) {
-            Seen::Request(parts) => show_request(alloc, line, parts),
+        match next(alloc, input, source, &mut request) {
+            Seen::Request => show_request(line, &request),
             Seen::Over(word) => {
                 line.add(word);
                 return;

@@ -4,6 +4,7 @@ use crate::framing_of;
 use dav_io::{MemSink, MemSource, NoMemory, Octets};
 use dav_rows::{Line, word};
 use dav_wire::{Found, Framing, Input, Output, fill_flushing};
+use http::Request;
 use std::alloc::Global;
 
 // Room for a body.
@@ -133,9 +134,10 @@ fn ask(
     source: &mut MemSource,
     output: &mut Output,
     sink: &mut MemSink,
+    request: &mut Request<Octets>,
 ) {
     let _ = output.push(sink, b"wait");
-    match input.next_head(alloc) {
+    match input.next_head(alloc, request) {
         Ok(Found::More) => {
             let _ = fill_flushing(input, source, output, sink);
         }
@@ -153,8 +155,9 @@ fn ask_by(
 ) {
     match Input::new(alloc) {
         Ok(mut input) => {
+            let mut request = Request::new(alloc, Octets::empty(alloc));
             for _ in 0..3u8 {
-                ask(alloc, line, &mut input, source, output, sink);
+                ask(alloc, line, &mut input, source, output, sink, &mut request);
             }
         }
         Err(_) => line.refuse(),

@@ -20,5 +20,5 @@ returns-in-Ok-ended-clause-ends g c =
 pub returns-clause-memory : goal.returns-clause-memory
 returns-clause-memory g c =
     starved_flushed _ _ _
-    (over_the_disk (λ setup before after. Starved setup before c.answer_all-ended.new.held.output after) _ _ _ _ _ _ _ _ (g.D.Disk.state c.disk-1.given.0) (c.player_over-player.ensures.stage c.in-Ok.ensures) (search rules) c.in-Err-ended.ensures.memory)
+    (over_the_disk (λ setup before after. Starved setup before c.answer_all-ended.new.held.output after) _ _ _ _ _ _ _ _ _ (c.player_over-player.ensures.stage c.in-Ok.ensures) (search rules) c.in-Err-ended.ensures.memory)
     c.flush.ensures.pushes c.flush.ensures.emptied

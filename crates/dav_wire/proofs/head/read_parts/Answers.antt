@@ -25,8 +25,8 @@ returns-in-Err-clause-refused c = λ same.
     let none = c.read_target.ensures.refused (c.in-Err.is ∙ search (rules, same)) in
     target c.requires.complete.0 _ at.reads (subst SpellsNone (span_same c.args.buf.now _ _ c.args.head.path c.in-Ok.ensures c.requires.within.path ∙ at.path) none)
 
-pub returns-clause-ok : goal.returns-clause-ok
-returns-clause-ok c =
+pub returns-in-Ok-read_fields-clause-ok : goal.returns-in-Ok-read_fields-clause-ok
+returns-in-Ok-read_fields-clause-ok c =
     let at = c.requires.complete.1 in
     record {
       head = c.requires.complete.0;
@@ -36,7 +36,7 @@ returns-clause-ok c =
       parts_are = record {
         method = c.in-Ok-read_method.ensures ∙ c.of.ensures ∙ at.method;
         uri = subst (λ (text : List ℕ). Spells text c.in-Ok-read_target.uri) (span_same c.args.buf.now _ _ c.args.head.path c.in-Ok.ensures c.requires.within.path ∙ at.path) c.in-Ok-read_target.ensures.ok;
-        version = rw (← at.version) c.version-version.ensures;
+        version = rw (← at.version) c.version.ensures;
         headers =
             c.in-Ok-read_fields.ensures
             ∙ ap (append_all []) (kept_alike _ _ _ (front_same c.args.buf.now _ _ c.requires.within.section.headers_fit ∙ at.fields));
