@@ -1,6 +1,7 @@
-"""The wanted rows of `body_rows`: polls of bodies, frames, slots and readers."""
-from texts import number, print_wanted, spelt, word
+"""The wanted rows of bodies of `handle_rows`: polls of bodies, frames, slots and readers."""
+from texts import number, spelt, word
 
+KINDS = ("steps", "collect", "frames", "bytes", "str", "string", "empty", "slot", "reader", "lent")
 POLLS = 100
 
 
@@ -45,14 +46,4 @@ def wanted(row):
         return f"true true {number(word(words, 2)) or 0} true"
     if kind == "reader":
         return "frames " + reader(calls + 1).replace("failed", "broken")
-    if kind == "lent":
-        return "pieces " + " ".join(reader(calls + n) for n in (1, 2, 3))
-    return row
-
-
-def wanted_all(rows):
-    return [wanted(row) for row in rows]
-
-
-if __name__ == "__main__":
-    print_wanted(wanted_all)
+    return "pieces " + " ".join(reader(calls + n) for n in (1, 2, 3))

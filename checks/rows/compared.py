@@ -5,7 +5,7 @@ import os
 HERE = os.path.dirname(os.path.abspath(__file__))
 TOP = os.path.dirname(os.path.dirname(HERE))
 DRIVERS = ("step_rows", "run_rows", "handle_rows", "local_rows", "memory_rows", "condition_rows", "text_rows",
-           "wire_rows", "report_rows", "selection_rows", "body_rows", "host_rows", "upload_rows",
+           "wire_rows", "report_rows", "selection_rows", "host_rows", "upload_rows",
            "mirror_rows", "session_rows", "readcache_rows")
 
 

@@ -1,4 +1,6 @@
-"""The wanted rows of `handle_rows`: requests to a handler over a disk in memory, by each form of `handle`."""
+"""The wanted rows of `handle_rows`: bodies, whose first word tells, and requests to a handler over a disk in memory, by each
+form of `handle`."""
+import body_rows
 from disk import SECOND, Disk
 from model import Answer, Body, Fields, Refused, Request, Settings, answer, is_plain, prefix_fits, refusal
 from store import Store
@@ -120,6 +122,8 @@ IN_ORDER = ("HEAD GET PUT PATCH OPTIONS PROPFIND PROPPATCH MKCOL COPY MOVE DELET
 def wanted(row):
     if row.startswith("#"):
         return row
+    if row.split(" ")[0] in body_rows.KINDS:
+        return body_rows.wanted(row)
     first, _, parts = row.partition("|")
     form, _, words = first.strip().partition(" ")
     if form == "merge":

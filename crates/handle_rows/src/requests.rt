@@ -1,16 +1,17 @@
-//! Requests of a row.
+//! The requests of a row: a part has its method, its target, and fields as `NAME:VALUE`. A word `=COUNT` is a body of so
+//! many bytes in pieces of at most 30,000; `!CALL` lets the reader fail at that call.
 use crate::readers::Pieces;
-use anyhow::Result;
+use dav_rows::word;
 use http::header::{HeaderName, HeaderValue};
 use http::{HeaderMap, Method, Request, Uri};
 use std::alloc::Global;
 
-fn add_field(alloc: Global, fields: &mut HeaderMap, word: &str) -> Result<()> {
-    let mut halves = word.splitn(2, ':');
-    let name = HeaderName::from_bytes(alloc, halves.next().unwrap_or("").as_bytes())?;
-    let value = HeaderValue::from_bytes(alloc, halves.next().unwrap_or("").as_bytes())?;
-    fields.append(name, value)?;
-    Ok(())
+fn add_field(alloc: Global, fields: &mut HeaderMap, word: &str) -> Option<()> {
+    let (name, value) = word.split_once(':').unwrap_or((word, ""));
+    let name = HeaderName::from_bytes(alloc, name.as_bytes()).ok()?;
+    let value = HeaderValue::from_bytes(alloc, value.as_bytes()).ok()?;
+    fields.append(name, value).ok()?;
+    Some(())
 }
 
 fn number_behind(word: &str, sign: &str) -> Option<u64> {
@@ -35,24 +36,31 @@ fn body_of(part: &str) -> Pieces {
     Pieces::new(count as usize, fails_at)
 }
 
-fn fields_of(alloc: Global, part: &str) -> Result<HeaderMap> {
-    let mut fields = HeaderMap::new(alloc);
+fn set_method(alloc: Global, request: &mut Request<Pieces>, word: &str) -> Option<()> {
+    *request.method_mut() = Method::from_bytes(alloc, word.as_bytes()).ok()?;
+    Some(())
+}
+
+fn set_target(alloc: Global, request: &mut Request<Pieces>, word: &str) -> Option<()> {
+    *request.uri_mut() = Uri::from_str(alloc, word).ok()?;
+    Some(())
+}
+
+// Sets the method, the target and the fields of a part.
+fn fill(alloc: Global, request: &mut Request<Pieces>, part: &str) -> Option<()> {
+    set_method(alloc, request, word(part, 0))?;
+    set_target(alloc, request, word(part, 1))?;
     for word in part.split(' ').skip(2) {
         if word.contains(":") {
-            add_field(alloc, &mut fields, word)?;
+            add_field(alloc, request.headers_mut(), word)?;
         }
     }
-    Ok(fields)
+    Some(())
 }
 
 /// The request of a part.
-pub fn request_of(alloc: Global, part: &str) -> Result<Request<Pieces>> {
-    let mut words = part.split(' ');
-    let method = Method::from_bytes(alloc, words.next().unwrap_or("").as_bytes())?;
-    let uri = Uri::from_str(alloc, words.next().unwrap_or(""))?;
+pub fn request_of(alloc: Global, part: &str) -> Option<Request<Pieces>> {
     let mut request = Request::new(alloc, body_of(part));
-    *request.headers_mut() = fields_of(alloc, part)?;
-    *request.uri_mut() = uri;
-    *request.method_mut() = method;
-    Ok(request)
+    let filled = fill(alloc, &mut request, part);
+    filled.map(|_| request)
 }

@@ -1,38 +1,40 @@
 //! Settings of a row, as words `NAME=VALUE`.
-use anyhow::Result;
 use dav_cache::Forget;
 use dav_config::{DavConfig, Settings};
 use dav_core::{DavMethod, DavMethodSet, DavPath, dav_method, is_plain};
 use dav_disk::MemDisk;
 use dav_io::{NoMemory, Text};
 use dav_local::LocalFs;
+use dav_rows::Line;
 use http::Method;
 use std::alloc::Global;
 
-pub type Config = DavConfig<LocalFs<MemDisk, Forget>, ()>;
+pub type Store = LocalFs<MemDisk, Forget>;
+
+pub type Config = DavConfig<Store, ()>;
 
 // The methods that there are.
 const METHODS: &str =
     "HEAD GET PUT PATCH OPTIONS PROPFIND PROPPATCH MKCOL COPY MOVE DELETE LOCK UNLOCK REPORT MKCALENDAR \
     MKADDRESSBOOK";
 
-fn method_of(alloc: Global, word: &str) -> Result<DavMethod> {
-    let method = Method::from_bytes(alloc, word.as_bytes())?;
-    Ok(dav_method(&method)?)
+fn method_of(alloc: Global, word: &str) -> Option<DavMethod> {
+    let method = Method::from_bytes(alloc, word.as_bytes()).ok()?;
+    dav_method(&method).ok()
 }
 
-fn methods_of(alloc: Global, words: &str) -> Result<DavMethodSet> {
+fn methods_of(alloc: Global, words: &str) -> Option<DavMethodSet> {
     let mut methods = DavMethodSet::none();
     for word in words.split(',') {
         methods.add(method_of(alloc, word)?);
     }
-    Ok(methods)
+    Some(methods)
 }
 
-fn with_methods(alloc: Global, config: Config, words: &str) -> Result<Config> {
-    match methods_of(alloc, words) {
-        Ok(methods) => Ok(config.methods(methods)),
-        Err(error) => Err(error),
+fn with_methods(config: Config, methods: Option<DavMethodSet>) -> Result<Config, NoMemory> {
+    match methods {
+        Some(methods) => Ok(config.methods(methods)),
+        None => Err(NoMemory),
     }
 }
 
@@ -60,79 +62,102 @@ fn with_index(config: Config, name: &str) -> Result<Config, NoMemory> {
 }
 
 // The configuration with what a word sets.
-fn with_word(alloc: Global, config: Config, word: &str) -> Result<Config> {
+fn with_word(alloc: Global, config: Config, word: &str) -> Result<Config, NoMemory> {
     let (name, value) = word.split_once('=').unwrap_or((word, ""));
     match name {
-        "prefix" => Ok(with_prefix(config, value)?),
-        "methods" => with_methods(alloc, config, value),
-        "principal" => Ok(config.principal(value)?),
-        "index" => Ok(with_index(config, value)?),
+        "prefix" => with_prefix(config, value),
+        "methods" => with_methods(config, methods_of(alloc, value)),
+        "principal" => config.principal(value),
+        "index" => with_index(config, value),
         "buffer" => Ok(config.read_buf_size(value.parse::<usize>().unwrap_or(0))),
         _ => Ok(with_flag(config, name, value == "yes")),
     }
 }
 
-/// The configuration that words ask for, without a store.
-pub fn config_of(alloc: Global, words: &str) -> Result<Config> {
-    let mut config = DavConfig::new(alloc);
+fn set_word(alloc: Global, config: &mut Option<Config>, word: &str) {
+    if let Some(old) = config.take() {
+        *config = with_word(alloc, old, word).ok();
+    }
+}
+
+fn set_words(alloc: Global, config: &mut Option<Config>, words: &str) {
     for word in words.split(' ') {
-        config = with_word(alloc, config, word)?;
+        set_word(alloc, config, word);
     }
-    Ok(config)
 }
 
-/// The settings of one configuration, with those of another in their place where they are set.
-pub fn merged(alloc: Global, old: &str, new: &str) -> Result<Settings> {
-    let new = config_of(alloc, new)?.merge(&Settings::defaults(alloc))?;
-    Ok(config_of(alloc, old)?.merge(&new)?)
+/// The configuration that words ask for, without a store.
+pub fn config_of(alloc: Global, words: &str) -> Option<Config> {
+    let mut config = Some(DavConfig::new(alloc));
+    set_words(alloc, &mut config, words);
+    config
 }
 
-fn show_flag(line: &mut String, name: &str, flag: Option<bool>) -> Result<()> {
+// The settings that words ask for, with others in their place where those are set.
+fn settings_over(alloc: Global, words: &str, new: &Settings) -> Option<Settings> {
+    config_of(alloc, words)?.merge(new).ok()
+}
+
+fn merged(alloc: Global, old: &str, new: &str) -> Option<Settings> {
+    let new = settings_over(alloc, new, &Settings::defaults(alloc))?;
+    settings_over(alloc, old, &new)
+}
+
+/// Adds the settings of one configuration, with those of another in their place where they are set.
+pub fn tell_merged(alloc: Global, line: &mut Line, old: &str, new: &str) {
+    line.add("merged");
+    match merged(alloc, old, new) {
+        Some(settings) => tell(alloc, line, &settings),
+        None => line.refuse(),
+    }
+}
+
+fn tell_text(line: &mut Line, name: &str, text: &str) {
+    line.tell(" ", name);
+    line.tell("=", text);
+}
+
+fn tell_flag(line: &mut Line, name: &str, flag: Option<bool>) {
     match flag {
-        Some(true) => show_text(line, name, "yes"),
-        Some(false) => show_text(line, name, "no"),
-        None => Ok(()),
+        Some(true) => tell_text(line, name, "yes"),
+        Some(false) => tell_text(line, name, "no"),
+        None => {}
     }
 }
 
-fn show_text(line: &mut String, name: &str, text: &str) -> Result<()> {
-    line.push_str(" ")?;
-    line.push_str(name)?;
-    line.push_str("=")?;
-    line.push_str(text)?;
-    Ok(())
-}
-
-fn show_option(line: &mut String, name: &str, text: &Option<Text>) -> Result<()> {
+fn tell_option(line: &mut Line, name: &str, text: &Option<Text>) {
     match text {
-        Some(text) => show_text(line, name, text.as_str()),
-        None => Ok(()),
+        Some(text) => tell_text(line, name, text.as_str()),
+        None => {}
     }
 }
 
-fn show_methods(alloc: Global, line: &mut String, methods: DavMethodSet) -> Result<()> {
-    line.push_str(" methods")?;
+fn tell_methods(alloc: Global, line: &mut Line, methods: DavMethodSet) {
+    line.add(" methods");
     for word in METHODS.split(' ') {
-        if methods.contains(method_of(alloc, word)?) {
-            line.push_str(",")?;
-            line.push_str(word)?;
+        match method_of(alloc, word) {
+            Some(method) => {
+                if methods.contains(method) {
+                    line.tell(",", word);
+                }
+            }
+            None => line.refuse(),
         }
     }
-    Ok(())
 }
 
-/// Adds each setting that is set, and the prefix.
-pub fn show(alloc: Global, line: &mut String, settings: &Settings) -> Result<()> {
-    show_text(line, "prefix", settings.prefix.as_str())?;
+// Adds each setting that is set, and the prefix.
+fn tell(alloc: Global, line: &mut Line, settings: &Settings) {
+    tell_text(line, "prefix", settings.prefix.as_str());
     if let Some(methods) = settings.allow {
-        show_methods(alloc, line, methods)?;
+        tell_methods(alloc, line, methods);
     }
-    show_option(line, "principal", &settings.principal)?;
-    show_flag(line, "hide", settings.hide_symlinks)?;
-    show_flag(line, "autoindex", settings.autoindex)?;
-    show_option(line, "index", &settings.indexfile)?;
+    tell_option(line, "principal", &settings.principal);
+    tell_flag(line, "hide", settings.hide_symlinks);
+    tell_flag(line, "autoindex", settings.autoindex);
+    tell_option(line, "index", &settings.indexfile);
     if let Some(size) = settings.read_buf_size {
-        line.push_str(format!(in alloc; " buffer={size}")?.as_str())?;
+        line.add_number(" buffer=", size as u64);
     }
-    show_flag(line, "redirect", settings.redirect)
+    tell_flag(line, "redirect", settings.redirect);
 }

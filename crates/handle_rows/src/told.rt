@@ -4,58 +4,51 @@ ghost use Rattle.dav_disk.specs.Failing.{mem_state};
 ghost use Rattle.dav_get.specs.Bodies.{IsHeld};
 ghost use Rattle.dav_local.specs.LocalFiles.{local_file};
 
-use anyhow::Result;
 use dav_body::{Body, BodyFault, BodyType, collect};
 use dav_disk::MemDisk;
 use dav_get::GetBody;
 use dav_io::Octets;
 use dav_local::LocalFsFile;
+use dav_rows::Line;
 use http::{HeaderMap, Response};
-use percent_encoding::{AsciiSet, CONTROLS, percent_encode};
+use percent_encoding::CONTROLS;
 use std::alloc::Global;
 
-fn show(line: &mut String, bytes: &[u8]) -> Result<()> {
-    let set: AsciiSet = CONTROLS.add(b'%').add(b'|');
-    percent_encode(bytes, set).append_to(line)?;
-    Ok(())
+fn tell_bytes(line: &mut Line, bytes: &[u8]) {
+    line.add_bytes(bytes, CONTROLS.add(b'%').add(b'|'));
 }
 
-fn show_fields(line: &mut String, fields: &HeaderMap) -> Result<()> {
+fn tell_fields(line: &mut Line, fields: &HeaderMap) {
     for (name, value) in fields.iter() {
-        line.push_str(" ")?;
-        line.push_str(name.as_str())?;
-        line.push_str("=")?;
-        show(line, value.as_bytes())?;
+        line.tell(" ", name.as_str());
+        line.add("=");
+        tell_bytes(line, value.as_bytes());
     }
-    Ok(())
 }
 
 /// Adds the head of a response.
-pub fn show_head<B>(alloc: Global, line: &mut String, response: &Response<B>) -> Result<()> {
-    let status = response.status().as_u16();
-    line.push_str(format!(in alloc; "{status}")?.as_str())?;
-    show_fields(line, response.headers())
+pub fn tell_head<B>(line: &mut Line, response: &Response<B>) {
+    line.add_number("", u64::from(response.status().as_u16()));
+    tell_fields(line, response.headers());
 }
 
 /// Adds what a body is that no disk is there for: nothing.
-pub fn show_kind(line: &mut String, body: &Body<GetBody<LocalFsFile>>) -> Result<()> {
+pub fn tell_kind(line: &mut Line, body: &Body<GetBody<LocalFsFile>>) {
     match &body.inner {
-        BodyType::Empty => line.push_str(" =")?,
-        BodyType::Bytes(_) => line.push_str(" bytes")?,
-        BodyType::AsyncStream(_) => line.push_str(" a stream")?,
+        BodyType::Empty => line.add(" ="),
+        BodyType::Bytes(_) => line.add(" bytes"),
+        BodyType::AsyncStream(_) => line.add(" a stream"),
     }
-    Ok(())
 }
 
 /// Adds all that a body gave.
-pub fn show_body(line: &mut String, all: &Result<Octets, BodyFault>) -> Result<()> {
-    line.push_str(" =")?;
+pub fn tell_body(line: &mut Line, all: &Result<Octets, BodyFault>) {
+    line.add(" =");
     match all {
-        Ok(bytes) => show(line, bytes.as_slice())?,
-        Err(BodyFault::Broken) => line.push_str(" broken")?,
-        Err(BodyFault::NoMemory) => line.push_str(" out of memory")?,
+        Ok(bytes) => tell_bytes(line, bytes.as_slice()),
+        Err(BodyFault::Broken) => line.add(" broken"),
+        Err(BodyFault::NoMemory) => line.add(" out of memory"),
     }
-    Ok(())
 }
 
 /// All that a body gives with the disk of its store. Its file is closed.
