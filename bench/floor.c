@@ -1,10 +1,13 @@
 #define _GNU_SOURCE
 /* What serving files over standard input and output costs by itself: GET of a regular file, of one range or of the page of a
- * directory, and 304 by an equal tag; the fields of a request are read, and nothing is checked. One buffer of 16 KiB; the head and the first bytes leave in one write. It is a yardstick and
- * no server.
- *   floor ROOT */
+ * directory, and 304 by an equal tag; the fields of a request are read, and nothing is checked. One buffer of 16 KiB; the
+ * head and the first bytes leave in one write. It is a yardstick and no server.
+ *   floor ROOT [look] [clear] [joined]
+ * With `look` a path is looked at before it is opened; with `clear` the path of each of three calls is cleared and copied in
+ * 4 KiB of its own; with `joined` the answers to requests that came together leave in one write. davserve does all three. */
 #include <dirent.h>
 #include <fcntl.h>
+#include <stdbool.h>
 #include <stdio.h>
 #include <stdlib.h>
 #include <string.h>
@@ -13,7 +16,9 @@
 #include <time.h>
 #include <unistd.h>
 
-enum { PIECE = 16384, HEAD = 1024, INPUT = 65536 };
+enum { PIECE = 16384, HEAD = 1024, INPUT = 65536, PATH = 4096 };
+
+static bool looks, clears, joins;
 
 static void write_all(const char *bytes, size_t count) {
   while (count > 0) {
@@ -22,6 +27,37 @@ static void write_all(const char *bytes, size_t count) {
     bytes += written;
     count -= (size_t)written;
   }
+}
+
+/* Answers that wait for one write. */
+static char answers[INPUT + HEAD + PIECE];
+static size_t answered;
+
+static void leave(void) {
+  write_all(answers, answered), answered = 0;
+}
+
+/* A path as the toolchain hands it to a call: cleared, and copied. */
+static const char *handed(const char *path) {
+  static char cleared[PATH], copied[PATH];
+  if (!clears) return path;
+  memset(cleared, 0, PATH);
+  strcpy(cleared, path);
+  __asm__ volatile("" : : "r"(cleared) : "memory");
+  memcpy(copied, cleared, PATH);
+  __asm__ volatile("" : : "r"(copied) : "memory");
+  return copied;
+}
+
+/* An answer, or a piece of one, at once or with those that follow. */
+static void tell(const char *bytes, size_t count) {
+  if (!joins) {
+    write_all(bytes, count);
+    return;
+  }
+  memcpy(answers + answered, bytes, count);
+  answered += count;
+  if (answered > INPUT) leave();
 }
 
 /* The head of the bytes from `first` on, `count` of them. */
@@ -108,9 +144,12 @@ static void answer(const char *root, const char *target, int length, struct aske
   static char path[4096], out[HEAD + PIECE], tag[64];
   struct stat meta;
   snprintf(path, sizeof path, "%s%.*s", root, length, target);
-  int file = open(path, O_RDONLY);
+  if (looks && stat(handed(path), &meta) != 0) exit(5);
+  int file = open(handed(path), O_RDONLY);
+  if (clears) handed("");
   if (file < 0 || fstat(file, &meta) != 0) exit(5);
   if (S_ISDIR(meta.st_mode)) {
+    leave();
     list(file, target, length);
     return;
   }
@@ -130,11 +169,11 @@ static void answer(const char *root, const char *target, int length, struct aske
   while (left > 0) {
     ssize_t count = read(file, out + held, left < PIECE ? (size_t)left : PIECE);
     if (count <= 0) exit(5);
-    write_all(out, held + (size_t)count);
+    tell(out, held + (size_t)count);
     held = 0;
     left -= count;
   }
-  if (held > 0) write_all(out, held);
+  if (held > 0) tell(out, held);
   close(file);
 }
 
@@ -155,7 +194,12 @@ static struct asked fields_of(const char *line, const char *last) {
 int main(int count, char **words) {
   static char in[INPUT];
   size_t start = 0, end = 0;
-  if (count != 2) return 2;
+  if (count < 2) return 2;
+  for (int i = 2; i < count; i++) {
+    looks = looks || strcmp(words[i], "look") == 0;
+    clears = clears || strcmp(words[i], "clear") == 0;
+    joins = joins || strcmp(words[i], "joined") == 0;
+  }
   for (;;) {
     char *last;
     while ((last = memmem(in + start, end - start, "\r\n\r\n", 4)) == NULL) {
@@ -163,6 +207,7 @@ int main(int count, char **words) {
       end -= start;
       start = 0;
       if (end == sizeof in) return 6;
+      leave();
       ssize_t taken = read(0, in + end, sizeof in - end);
       if (taken <= 0) return 0;
       end += (size_t)taken;
