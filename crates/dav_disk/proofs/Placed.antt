@@ -58,9 +58,6 @@ or_none : {A : Type 0} (o : Option A) → o ≡ option_or o None
 or_none None = refl
 or_none (Some x) = refl
 
-bytes_yes : (a b : List ℕ) → bytes_eq a b ≡ true → a ≡ b
-bytes_yes a b = (bytes_eq-Decides a b).0
-
 -- a name that had no place
 first_place : (c : Bool) (place : ℕ) (o : Option ℕ) → (c ≡ true → o ≡ None) → cond c (Some place) o ≡ option_or o (cond c (Some place) None)
 first_place true place o h = ap (λ (o : Option ℕ). option_or o (Some place)) (sym (h refl))
@@ -93,7 +90,7 @@ added_by : (f : Names → Option Members) (at dir : Names) (added name : List �
 added_by f at dir added name place m true e has none =
     let same = names_same at dir (sym e) in
     has name
-    ∙ first_place (bytes_eq added name) place (member_in (f at) name) (λ y. ap (member_in (f at)) (sym (bytes_yes added name y)) ∙ none)
+    ∙ first_place (bytes_eq added name) place (member_in (f at) name) (λ y. ap (member_in (f at)) (sym ((bytes_eq-Decides added name).0 y)) ∙ none)
     ∙ ap (λ (p : Names). option_or (member_in (f p) name) (cond (bytes_eq added name) (Some place) None)) same
 added_by f at dir added name place m false e has none = or_none (member_in (f dir) name)
 
@@ -128,7 +125,7 @@ stands_still (Some i) p e = refl
 still_by : (f : Names → List ℕ → Option ℕ) (at dir : Names) (added name : List ℕ) (place : ℕ) (b c : Bool) → b ≡ same_names at dir → c ≡ bytes_eq added name → is_some (f at added) ≡ true
     → f dir name ≡ option_or (f dir name) (cond (b && c) (Some place) None)
 still_by f at dir added name place true true e d some =
-    stands_still (f dir name) (Some place) (ap is_some (ap (f dir) (sym (bytes_yes added name (sym d))) ∙ ap (λ (p : Names). f p added) (sym (names_same at dir (sym e)))) ∙ some)
+    stands_still (f dir name) (Some place) (ap is_some (ap (f dir) (sym ((bytes_eq-Decides added name).0 (sym d))) ∙ ap (λ (p : Names). f p added) (sym (names_same at dir (sym e)))) ∙ some)
 still_by f at dir added name place true false e d some = or_none (f dir name)
 still_by f at dir added name place false c e d some = or_none (f dir name)
 

@@ -1,22 +1,12 @@
 -- A part that stands in a text.
-use Rattle.std.proofs.Common.{◌≡◌, ℕ, ◌++◌, List, [], ◌∷◌, length, drop, Bool, true, false, ◌||◌, refl, sym, ap, ◌⊎◌, inl, inr, nat_eq, ◌↔◌}
+use Rattle.std.proofs.Common.{◌≡◌, ℕ, ◌++◌, List, [], ◌∷◌, length, drop, Bool, true, refl, ap, inl, inr, nat_eq, ◌↔◌}
 use Rattle.std.specs.List.{starts_with}
 use Rattle.std.specs.Str.Iter.{HasSubslice}
 use Rattle.std.proofs.lemmas.Bool.Decides.{Decides-eqb}
 use Rattle.std.proofs.lemmas.Slice.Eq.{starts_is}
 use Rattle.dav_matching.specs.Texts.{has}
-
-or_cases : (a b : Bool) → (a || b) ≡ true → (a ≡ true) ⊎ (b ≡ true)
-or_cases true b e = inl refl
-or_cases false b e = inr e
-
-or_left : (a b : Bool) → a ≡ true → (a || b) ≡ true
-or_left true b e = refl
-or_left false b e = cc
-
-or_right : (a b : Bool) → b ≡ true → (a || b) ≡ true
-or_right true b e = refl
-or_right false b e = e
+use Rattle.std.proofs.lemmas.Bool.{or_cases, or_left, or_right}
+use Rattle.dav_io.proofs.Cases.{same_tests}
 
 starts_here : (part text : List ℕ) → starts_with nat_eq text part ≡ true → HasSubslice text part
 starts_here part text e = ([], drop (length part) text, (starts_is Decides-eqb text part (starts_with nat_eq text part) refl).0 e)
@@ -42,12 +32,6 @@ found part (b ∷ text) (x ∷ front) back e =
     let later : text ≡ front ++ (part ++ back) = cc in
     or_right (starts_with nat_eq (b ∷ text) part) (has part text) (found part text front back later)
 
-same_bool : (a b : Bool) → (a ≡ true → b ≡ true) → (b ≡ true → a ≡ true) → a ≡ b
-same_bool true true f g = refl
-same_bool true false f g = sym (f refl)
-same_bool false true f g = g refl
-same_bool false false f g = refl
-
 -- what a search answers is whether the part stands there
 pub has_is : (r : Bool) (part text : List ℕ) → (r ≡ true) ↔ HasSubslice text part → r ≡ has part text
-has_is r part text h = same_bool r (has part text) (λ e. let s = h.0 e in found part text s.0 s.1 s.2) (λ e. h.1 (stands part text e))
+has_is r part text h = same_tests r (has part text) (λ e. let s = h.0 e in found part text s.0 s.1 s.2) (λ e. h.1 (stands part text e))

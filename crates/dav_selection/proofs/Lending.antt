@@ -3,7 +3,6 @@ use Rattle.std.proofs.Common.{◌≡◌, ◌≤◌, ◌+◌, ◌++◌, ℕ, add-
 use Rattle.std.proofs.Math.Seq.{take-add}
 use Rattle.std.proofs.lemmas.List.{append-nil, drop-drop, take-append-drop, take_all}
 use Rattle.std.proofs.lemmas.Grind.{common_steps}
-use Rattle.dav_io.specs.Counts.{Rose}
 use Rattle.dav_core.specs.declared.error.FsError.{FsError}
 use Rattle.dav_core.specs.Disk.{DiskState, can_read}
 use Rattle.dav_core.specs.Info.{Info}
@@ -14,10 +13,7 @@ use Rattle.dav_store.specs.Standing.{Seen}
 use Rattle.dav_store.specs.View.{View, Closes, Says, seen_in}
 use Rattle.dav_selection.specs.Pieces.{Appends, ClosesAfter, ReadSoFar, Touches}
 use Rattle.dav_selection.specs.Resources.{ReadsTo}
-
-rose_from : (a b c : ℕ) → a ≤ b → Rose b c → Rose a c
-rose_from a b c le (inl lt) = inl (omega arith)
-rose_from a b c le (inr full) = inr full
+use Rattle.dav_store.proofs.Reading.{rose_from}
 
 spoiled_from : {A B : Type 0} (s m t : DiskState) (e : FsError) → s.faults ≤ m.faults → Spoiled {T = A} m (Err e) t → Spoiled {T = B} s (Err e) t
 spoiled_from s m t e le (inl fault) = let same = fault.0 in inl (cc, rose_from s.faults m.faults t.faults le fault.1)

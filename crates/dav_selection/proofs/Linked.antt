@@ -1,8 +1,7 @@
 -- The records of links, and the links that are missing, are those of what the store shows.
-use Rattle.std.proofs.Common.{◌≡◌, ◌≤◌, ◌++◌, ◌⊎◌, inl, inr, ℕ, List, [], ◌∷◌, All, map, Option, None, Some, Result, Ok, Err, refl, sym, ap, subst, ◌∙◌, append-nil}
-use Rattle.std.specs.List.{AllByRecursion, flat_map}
+use Rattle.std.proofs.Common.{◌≡◌, ◌≤◌, ◌++◌, ◌⊎◌, inl, inr, ℕ, List, [], ◌∷◌, All, map, Option, None, Some, Result, Ok, Err, refl, sym, ap, subst}
+use Rattle.std.specs.List.{AllByRecursion}
 use Rattle.std.specs.Option.{option_map, option_to_list}
-use Rattle.std.proofs.lemmas.Grind.{flat_map-append}
 use Rattle.std.proofs.lemmas.List.{map-append}
 use Rattle.std.proofs.lemmas.List.Elements.{recursion_from_All}
 use Rattle.dav_io.specs.Counts.{Rose}
@@ -23,6 +22,7 @@ use Rattle.dav_selection.specs.Reports.{Followed, Follows, Leads, LinksAsked, be
 use Rattle.dav_selection.specs.Shown.{AreLinked, IsDueOr, IsFollowed, ShowsAt, ShowsBy, Stock, due_of}
 use Rattle.dav_selection.proofs.Due.{fetch_due, fetch_reached}
 use Rattle.dav_selection.proofs.Selected.{all_from, all_split, due_later}
+use Rattle.dav_selection.proofs.Walks.{flat_more}
 
 linked_later : {A B : Type 0} (due : List ℕ → List Record) (hrefs : List (List ℕ)) (records : List Record) (lost : List (List ℕ)) → (A → B)
     → AreLinked due A hrefs records lost → AreLinked due B hrefs records lost
@@ -67,9 +67,6 @@ linked_push due fault (first ∷ hrefs) href records lost given (inl (r, rest, h
     inl (r, rest ++ given, has, ap (λ z. z ++ given) e, linked_push due fault hrefs href rest lost given more is few)
 linked_push due fault (first ∷ hrefs) href records lost given (inr (rest, why, e, more)) is few =
     inr (rest ++ unless (is_given given) href, why, ap (λ z. z ++ unless (is_given given) href) e, linked_push due fault hrefs href records rest given more is few)
-
-flat_push : {A B : Type 0} (f : A → List B) (xs : List A) (x : A) → flat_map f (xs ++ x ∷ []) ≡ flat_map f xs ++ f x
-flat_push f xs x = flat_map-append f xs (x ∷ []) ∙ ap (λ ys. flat_map f xs ++ ys) (append-nil (f x))
 
 module _ {S C F L E : Type 0} (view : View S C F) (lists : Listings S C L E) (s : S) (c : C) (stock : Stock) (asked : LinksAsked) where
   -- where a link led, and what it gave
@@ -118,9 +115,9 @@ module _ {S C F L E : Type 0} (view : View S C F) (lists : Listings S C L E) (s 
       let now = due_later (due href) given (λ rose. rose_from (view.state s).faults (view.state m).faults (view.state n).faults counts rose) one.gives in
       let all = linked_push due fault (map href_of links) href (linked asked.taken links) (missing asked.taken links) given old now one.few in
       let hrefs : map href_of links ++ href ∷ [] ≡ map href_of (links ++ l ∷ []) = sym (map-append href_of links (l ∷ [])) in
-      let records : linked asked.taken links ++ given ≡ linked asked.taken (links ++ l ∷ []) = sym (flat_push (λ (l : Link). answer_given asked.taken l.answer) links l) in
+      let records : linked asked.taken links ++ given ≡ linked asked.taken (links ++ l ∷ []) = sym (flat_more (λ (l : Link). answer_given asked.taken l.answer) links l) in
       let lost : missing asked.taken links ++ unless (is_given given) href ≡ missing asked.taken (links ++ l ∷ []) =
-      sym (flat_push (λ (l : Link). unless (is_given (answer_given asked.taken l.answer)) l.href) links l) in (
+      sym (flat_more (λ (l : Link). unless (is_given (answer_given asked.taken l.answer)) l.href) links l) in (
         one.reached,
         subst (λ z. AreLinked due fault z (linked asked.taken (links ++ l ∷ [])) (missing asked.taken (links ++ l ∷ []))) hrefs
             (subst (λ z. AreLinked due fault (map href_of links ++ href ∷ []) z (missing asked.taken (links ++ l ∷ []))) records

@@ -27,16 +27,13 @@ use Rattle.dav_selection.specs.Answered.{Answer, Wants, given, record_of, record
 use Rattle.dav_selection.specs.Reports.{AreInOrder, Asked, HadMemory, IsPassable, Selects, Sought, Walks, begun, goes, member_path}
 use Rattle.dav_selection.specs.Shown.{AreGiven, IsDueOr, IsQueried, ShowsAt, Stock, at_most, due_at}
 use Rattle.dav_selection.proofs.Due.{fetch_due, fetch_reached, fetch_refused}
+use Rattle.dav_selection.proofs.Walks.{all_more}
 
 -- ---- of all elements of a list
 
 pub all_split : {A : Type 0} (P : A → Type 0) (xs : List A) (x : A) → AllByRecursion P (xs ++ x ∷ []) → AllByRecursion P xs × P x
 all_split P [] x all = (tt, all.0)
 all_split P (y ∷ xs) x all = let rest = all_split P xs x all.1 in ((all.0, rest.0), rest.1)
-
-pub all_push : {A : Type 0} (P : A → Type 0) (xs : List A) (x : A) → AllByRecursion P xs → P x → AllByRecursion P (xs ++ x ∷ [])
-all_push P [] x all here = (here, tt)
-all_push P (y ∷ xs) x all here = (all.0, all_push P xs x all.1 here)
 
 pub all_map : {A : Type 0} (P Q : A → Type 0) (xs : List A) → ((x : A) → P x → Q x) → AllByRecursion P xs → AllByRecursion Q xs
 all_map P Q [] h all = tt
@@ -164,7 +161,7 @@ module _ {S C F L E : Type 0} (view : View S C F) (lists : Listings S C L E) (s 
       let on : (view.state m).faults ≤ (view.state n).faults = (reached_stays view lists m c n (fetch_reached view lists m c m n path got by_none fetched hads.1)).counts in
       let here = fetch_due view lists s c taken path (stock.opened path) m n got shown.1 place fetched hads.1 in (
         fetch_reached view lists s c m n path got place fetched hads.1,
-        all_push (λ (a : Answer). IsDueOr (Rose (view.state s).faults (view.state n).faults) (due_at taken stock a.path) (given taken a.path a.got)) answers (record { path = path; got = got })
+        all_more (λ (a : Answer). IsDueOr (Rose (view.state s).faults (view.state n).faults) (due_at taken stock a.path) (given taken a.path a.got)) answers (record { path = path; got = got })
             (all_map (λ (a : Answer). IsDueOr (Rose (view.state s).faults (view.state m).faults) (due_at taken stock a.path) (given taken a.path a.got))
             (λ (a : Answer). IsDueOr (Rose (view.state s).faults (view.state n).faults) (due_at taken stock a.path) (given taken a.path a.got)) answers
             (λ (a : Answer). due_later (due_at taken stock a.path) (given taken a.path a.got) (λ rose. rose_on (view.state s).faults (view.state m).faults (view.state n).faults rose on)) due)

@@ -29,11 +29,11 @@ mapped_more f g done a all i d before within here = map-append f done (a ∷ [])
     ∙ (ap (λ xs. xs ++ f a ∷ []) before ∙ (ap (λ w. map g (take i all) ++ w ∷ []) here
     ∙ (sym (map-append g (take i all) (get_or all i d ∷ [])) ∙ ap (map g) (sym (take-suc all i d within)))))
 
-all_more : {A : Type 0} (P : A → Type 0) (xs : List A) (x : A) → AllByRecursion P xs → P x → AllByRecursion P (xs ++ x ∷ [])
+pub all_more : {A : Type 0} (P : A → Type 0) (xs : List A) (x : A) → AllByRecursion P xs → P x → AllByRecursion P (xs ++ x ∷ [])
 all_more P [] x all here = (here, tt)
 all_more P (y ∷ xs) x all here = (all.0, all_more P xs x all.1 here)
 
-flat_more : {A B : Type 0} (f : A → List B) (xs : List A) (x : A) → flat_map f (xs ++ x ∷ []) ≡ flat_map f xs ++ f x
+pub flat_more : {A B : Type 0} (f : A → List B) (xs : List A) (x : A) → flat_map f (xs ++ x ∷ []) ≡ flat_map f xs ++ f x
 flat_more f xs x = flat_map-append f xs (x ∷ []) ∙ ap (λ ys. flat_map f xs ++ ys) (append-nil (f x))
 
 pub records_more : (taken : List ℕ → Option (List ℕ)) (answers : List Answer) (path : WebPath) (got : Result Resource Unread) (old new : List Record)
