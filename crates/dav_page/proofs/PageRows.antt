@@ -28,43 +28,12 @@ use Rattle.dav_page.specs.Pages.{Crumb, heading_text, is_date, is_link, IsName, 
 use Rattle.dav_page.specs.Sizes.{shown_size}
 use Rattle.dav_page.specs.Listed.{AreRows, crumbs_from, IsMinute, IsOf, is_visible, place_of}
 
--- sizes: whole, with a fraction, rounded to the next unit's number, and in bytes from 2^60 on
-size_none : shown_size 0 ≡ codes "0 B"
+-- sizes: whole, with a fraction (of 1.125 a half goes up), rounded to the next unit's number, and in bytes from 2^60 on
+sizes : map shown_size (0 ∷ 1023 ∷ 1024 ∷ 1034 ∷ 1152 ∷ 1536 ∷ 1048575 ∷ 1152921504606846975 ∷ 1152921504606846976 ∷ [])
+    ≡ codes "0 B" ∷ codes "1023 B" ∷ codes "1 KiB" ∷ codes "1.01 KiB" ∷ codes "1.13 KiB" ∷ codes "1.5 KiB" ∷ codes "1024 KiB" ∷ codes "1024 PiB"
+    ∷ codes "1152921504606846976 B" ∷ []
 unfolding digits
-size_none = refl
-
-size_1023 : shown_size 1023 ≡ codes "1023 B"
-unfolding digits
-size_1023 = refl
-
-size_1024 : shown_size 1024 ≡ codes "1 KiB"
-unfolding digits
-size_1024 = refl
-
-size_1034 : shown_size 1034 ≡ codes "1.01 KiB"
-unfolding digits
-size_1034 = refl
-
--- 1.125 KiB: a half goes up
-size_1152 : shown_size 1152 ≡ codes "1.13 KiB"
-unfolding digits
-size_1152 = refl
-
-size_1536 : shown_size 1536 ≡ codes "1.5 KiB"
-unfolding digits
-size_1536 = refl
-
-size_below_mib : shown_size 1048575 ≡ codes "1024 KiB"
-unfolding digits
-size_below_mib = refl
-
-size_below_2_60 : shown_size 1152921504606846975 ≡ codes "1024 PiB"
-unfolding digits
-size_below_2_60 = refl
-
-size_2_60 : shown_size 1152921504606846976 ≡ codes "1152921504606846976 B"
-unfolding digits
-size_2_60 = refl
+sizes = refl
 
 -- headings: of the root, of `/d/`, and the links of one three directories down
 root_heading : heading_text [] None ≡ codes "/"
@@ -171,20 +140,11 @@ b_read = record {
 }
 
 -- what has no place in a page, and what has although no writer makes it
-no_date : is_date (codes "1970-1-01 00:00") ≡ false
-no_date = refl
+dates : map is_date (codes "1970-1-01 00:00" ∷ codes "9999-99-99 99:99" ∷ []) ≡ false ∷ true ∷ []
+dates = refl
 
-any_date : is_date (codes "9999-99-99 99:99") ≡ true
-any_date = refl
-
-no_link : is_link (codes "/a\"b") ≡ false
-no_link = refl
-
-half_link : is_link (codes "/a%4") ≡ false
-half_link = refl
-
-upper_or_lower : is_link (codes "/%c3%BC") ≡ true
-upper_or_lower = refl
+links : map is_link (codes "/a\"b" ∷ codes "/a%4" ∷ codes "/%c3%BC" ∷ []) ≡ false ∷ false ∷ true ∷ []
+links = refl
 
 no_page : (p : Page) → IsPage (codes "x") p → ⊥
 no_page p is = let e : 120 ≡ 60 = ap (λ t. slice_index_or t 0 0) is.spells in absurd (omega (arith, e))
