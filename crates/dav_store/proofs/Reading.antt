@@ -19,7 +19,6 @@ use Rattle.dav_store.specs.Listings.{HasLister, KeepsButLister}
 use Rattle.dav_store.specs.Members.{Answered, AreOf, BeginsThere, EndsThere, IsAnswerOf, ReadsThere, RefusesThere, SaysOrRose, ShowsMembers, Stops, WalksOut, WasListed, member_said, members_told, told_of}
 use Rattle.dav_store.specs.Shows.{here}
 use Rattle.dav_store.specs.View.{View, Listings}
-use Rattle.dav_store.proofs.Walking.{walk_then}
 
 pub keeps_lister : (own : Option ℕ) (s t : DiskState) → Keeps s t → KeepsButLister own s t
 keeps_lister own s t keeps = record {
@@ -32,11 +31,6 @@ keeps_lister own s t keeps = record {
   listers = λ n ne. ap (λ f. f n) keeps.listers;
   listings = λ n k ne is. keeps.listings n k is;
 }
-
--- a call of the listing after others, and then one that leaves all as it was
-pub step_keeps : (own before : Option ℕ) (s a m t : DiskState) → before ≡ own → KeepsButLister own s a → KeepsButLister before a m → Keeps m t → KeepsButLister own s t
-step_keeps own before s a m t same first next then_kept = walk_then own s a t first
-    (walk_then own a m t (subst (λ o. KeepsButLister o a m) same next) (keeps_lister own m t then_kept))
 
 pub lister_kept : (own after : Option ℕ) (s t : DiskState) → after ≡ own → t.listers ≡ s.listers → HasLister s own → HasLister t after
 lister_kept own after s t same listers live = subst (HasLister t) (sym same) (by own live)

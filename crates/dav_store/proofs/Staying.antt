@@ -1,11 +1,14 @@
 -- What calls leave of a store, one after the other.
-use Rattle.std.proofs.Common.{◌≡◌, ℕ, ap, refl, ◌∙◌, arith}
+use Rattle.std.proofs.Common.{◌≡◌, ℕ, ap, refl, sym, subst, ◌∙◌, arith}
 use Rattle.dav_io.proofs.ToldLemmas.{both_same, both_then}
 use Rattle.dav_core.specs.Disk.{DiskState, Live}
 use Rattle.dav_core.specs.Unchanged.{Keeps, SameListing, SameOpen}
 use Rattle.dav_core.proofs.UnchangedLemmas.{keeps_same, keeps_then, same_listing_then, same_open_then}
 use Rattle.dav_store.specs.Frames.{KeepsOpen}
-use Rattle.dav_store.specs.View.{Stays, StaysOpen, View}
+use Rattle.dav_store.specs.Listings.{EndsList, GoesOn, HasLister, IsListed}
+use Rattle.dav_store.specs.View.{Listings, Stays, StaysBy, StaysListing, StaysOpen, View}
+use Rattle.dav_store.proofs.Reading.{keeps_lister, lister_kept}
+use Rattle.dav_store.proofs.Walking.{walk_leaves, walk_on, walk_same}
 
 -- A call that changes nothing leaves open what was.
 pub open_kept : (s t : DiskState) → Keeps s t → KeepsOpen s t
@@ -62,3 +65,44 @@ module _ {S C F : Type 0} (view : View S C F) where
   -- two calls that write
   pub stays_then : (s m t : S) → StaysOpen view s m → StaysOpen view m t → StaysOpen view s t
   stays_then s m t p q = record { keeps = open_then _ _ _ p.keeps q.keeps; loan = q.loan ∙ p.loan }
+
+-- What a listing that is read on leaves of a store, from the one at which it stood to the one at which it stands.
+module _ {S C F L E : Type 0} (view : View S C F) (lists : Listings S C L E) where
+  -- no call
+  pub listing_same : (s : S) (l : L) → HasLister (view.state s) (lists.lister l) → StaysListing view lists s l s l
+  listing_same s l live = record { live = live; lister = refl; keeps = walk_same _ _; loan = refl }
+
+  pub listing_then : (s m t : S) (l j k : L) → StaysListing view lists s l m j → StaysListing view lists m j t k → StaysListing view lists s l t k
+  listing_then s m t l j k p q = record {
+    live = q.live;
+    lister = q.lister ∙ p.lister;
+    keeps = walk_on _ _ _ _ _ p.lister p.keeps q.keeps;
+    loan = q.loan ∙ p.loan;
+  }
+
+  -- an entry after others
+  pub listing_on : (s m t : S) (l j k : L) → StaysListing view lists s l m j → lists.lister k ≡ lists.lister j
+      → StaysBy view (λ a b. GoesOn a (lists.lister j) b) m t → StaysListing view lists s l t k
+  listing_on s m t l j k p same q = listing_then s m t l j k p (record {
+    live = subst (HasLister (view.state t)) (sym same) q.keeps.live;
+    lister = same;
+    keeps = q.keeps.keeps;
+    loan = q.loan;
+  })
+
+  -- a call beside the listing, which changes nothing
+  pub listing_beside : (s m t : S) (l j : L) → StaysListing view lists s l m j → Stays view m t → StaysListing view lists s l t j
+  listing_beside s m t l j p q = listing_then s m t l j j p (record {
+    live = lister_kept (lists.lister j) (lists.lister j) (view.state m) (view.state t) refl q.keeps.listers p.live;
+    lister = refl;
+    keeps = keeps_lister (lists.lister j) (view.state m) (view.state t) q.keeps;
+    loan = q.loan;
+  })
+
+  -- It was begun, read on and ended: all is as it was.
+  pub listing_ended : (s m n t : S) (l k : L) → StaysBy view (λ a b. IsListed a (lists.lister l) b) s m → StaysListing view lists m l n k
+      → StaysBy view (λ a b. EndsList a (lists.lister k) b) n t → Stays view s t
+  listing_ended s m n t l k begun on ended = record {
+    keeps = walk_leaves (lists.lister l) _ _ _ _ begun.keeps on.keeps (subst (λ own. EndsList (view.state n) own (view.state t)) on.lister ended.keeps);
+    loan = ended.loan ∙ (on.loan ∙ begun.loan);
+  }

@@ -37,12 +37,6 @@ walk_then own s m t p q = record {
 pub walk_on : (own before : Option ℕ) (s m t : DiskState) → before ≡ own → KeepsButLister own s m → KeepsButLister before m t → KeepsButLister own s t
 walk_on own before s m t same first next = walk_then own s m t first (subst (λ o. KeepsButLister o m t) same next)
 
--- two calls of the listing after others
-pub walk_all : (own before after : Option ℕ) (s a m t : DiskState) → before ≡ own → after ≡ before → KeepsButLister own s a → KeepsButLister before a m
-    → KeepsButLister after m t → KeepsButLister own s t
-walk_all own before after s a m t same still first next last = walk_then own s a t first
-    (walk_then own a m t (subst (λ o. KeepsButLister o a m) same next) (subst (λ o. KeepsButLister o m t) (still ∙ same) last))
-
 none_apart : (l : ℕ) → None ≢ Some l
 none_apart l e = cc
 

@@ -5,9 +5,9 @@ ghost use Rattle.dav_core.specs.declared.error.FsError.{FsError};
 ghost use Rattle.dav_core.specs.declared.member.Member.{Member};
 ghost use Rattle.dav_core.specs.Info.{Info};
 ghost use Rattle.dav_store.specs.Leads.{LeadsOn, ListedOn};
-ghost use Rattle.dav_store.specs.Listings.{HasLister, KeepsButLister};
+ghost use Rattle.dav_store.specs.Listings.{HasLister};
 ghost use Rattle.dav_store.specs.Members.{IsNamedPlain, ReadOut, ReadsThere, RefusesThere, ShowsMembers, WalksOut, WasListed, member_said, told_of};
-ghost use Rattle.dav_store.specs.View.{Stays};
+ghost use Rattle.dav_store.specs.View.{Stays, StaysListing};
 ghost use Rattle.dav_store.specs.declared.entry.ReadDirMeta.TheVariants.{Data};
 
 use crate::through::entry_metadata;
@@ -65,18 +65,14 @@ fn add_member<S: GuardedFileSystem<C>, C>(
     Ok(())
 }
 
-#[tactic(auto, using(crate::proofs::Walking::walk_same, crate::proofs::Walking::walk_then))]
 // Asks a listing on behind a fault, up to its end, where a store ends what it gathered. What it still gives is passed
 // over.
 fn run_out<S: GuardedFileSystem<C>, C>(fs: &mut S, dir: &mut S::Dir) -> Result<(), FsError>
     requires live { HasLister (S.view.state fs.old) (S.listings.lister dir.old) }
     ensures ends { OnOk result (ReadOut S.view S.listings fs.old dir.old fs.new dir.new) }
-    ensures live { HasLister (S.view.state fs.new) (S.listings.lister dir.new) }
-    ensures lister { S.listings.lister dir.new ≡ S.listings.lister dir.old }
-    ensures keeps { KeepsButLister (S.listings.lister dir.old) (S.view.state fs.old) (S.view.state fs.new) }
     ensures on { ListedOn S.view S.listings fs.old dir.old fs.new dir.new }
     ensures error { IfErr result (λ e. e ≡ FsError.NoMemory) }
-    ensures loan { S.view.loan fs.new ≡ S.view.loan fs.old }
+    ensures stays { StaysListing S.view S.listings fs.old dir.old fs.new dir.new }
 {
     'entries: loop {
         match fs.next_entry(dir) {
@@ -88,7 +84,6 @@ fn run_out<S: GuardedFileSystem<C>, C>(fs: &mut S, dir: &mut S::Dir) -> Result<(
     }
 }
 
-#[tactic(auto, using(crate::proofs::Walking::walk_same, crate::proofs::Walking::walk_then, crate::proofs::Reading::keeps_lister))]
 // The members that a listing has to come, up to its end or a fault, behind which it is asked on to its end.
 fn read_on<S: GuardedFileSystem<C>, C>(
     alloc: Global,
@@ -98,12 +93,9 @@ fn read_on<S: GuardedFileSystem<C>, C>(
     requires live { HasLister (S.view.state fs.old) (S.listings.lister dir.old) }
     ensures walks { IfOk result (λ members. WalksOut S.view S.listings fs.old dir.old members.items fs.new dir.new) }
     ensures plain { IfOk result (λ members. AllByRecursion IsNamedPlain members.items) }
-    ensures live { HasLister (S.view.state fs.new) (S.listings.lister dir.new) }
-    ensures lister { S.listings.lister dir.new ≡ S.listings.lister dir.old }
-    ensures keeps { KeepsButLister (S.listings.lister dir.old) (S.view.state fs.old) (S.view.state fs.new) }
     ensures on { ListedOn S.view S.listings fs.old dir.old fs.new dir.new }
     ensures error { IfErr result (λ e. e ≡ FsError.NoMemory) }
-    ensures loan { S.view.loan fs.new ≡ S.view.loan fs.old }
+    ensures stays { StaysListing S.view S.listings fs.old dir.old fs.new dir.new }
 {
     let mut members = Vec::new(alloc);
     'entries: loop {

@@ -7,8 +7,8 @@ ghost use Rattle.dav_core.specs.declared.error.FsError.{FsError};
 ghost use Rattle.dav_core.specs.DavPath.{WebPath};
 ghost use Rattle.dav_core.specs.Info.{Info};
 ghost use Rattle.dav_core.specs.Path.{is_plain};
-ghost use Rattle.dav_store.specs.Listings.{HasLister, KeepsButLister};
-ghost use Rattle.dav_store.specs.View.{Stays};
+ghost use Rattle.dav_store.specs.Listings.{HasLister};
+ghost use Rattle.dav_store.specs.View.{Stays, StaysListing};
 ghost use Rattle.dav_walks.specs.Reading.{AddsChild, HasMembers, HasNoMembers, ReadRefused, ReadsAll};
 ghost use Rattle.dav_walks.specs.Walking.{members_at};
 
@@ -66,10 +66,7 @@ fn read_to_end<S: GuardedFileSystem<C>, C>(
     ensures reads { (path : WebPath) → MatchResult result
         (λ members. ReadsAll S.view S.listings fs.old dir.old path (members_at path members.items) fs.new dir.new)
         (λ e. ReadRefused S.view S.listings fs.old dir.old e fs.new dir.new) }
-    ensures live { HasLister (S.view.state fs.new) (S.listings.lister dir.new) }
-    ensures lister { S.listings.lister dir.new ≡ S.listings.lister dir.old }
-    ensures keeps { KeepsButLister (S.listings.lister dir.old) (S.view.state fs.old) (S.view.state fs.new) }
-    ensures loan { S.view.loan fs.new ≡ S.view.loan fs.old }
+    ensures stays { StaysListing S.view S.listings fs.old dir.old fs.new dir.new }
 {
     let mut members = Vec::new(alloc);
     'entries: loop {

@@ -1,9 +1,8 @@
-use Rattle.std.proofs.Common.{Err, subst, ◌∙◌, arith}
+use Rattle.std.proofs.Common.{Err, arith}
 use Rattle.dav_store.specs.Leads.{listed, none, unlisted}
-use Rattle.dav_store.specs.Listings.{EndsList}
 use Rattle.dav_store.specs.Shows.{here}
 use Rattle.dav_store.proofs.Reading.{refuses_there, shown_by}
-use Rattle.dav_store.proofs.Walking.{walk_leaves}
+use Rattle.dav_store.proofs.Staying.{listing_ended}
 use Rattle.dav_store.proofs.members.read_members.Goals as goal
 
 pub returns-in-Err-clause-shown : goal.returns-in-Err-clause-shown
@@ -17,14 +16,7 @@ returns-clause-shown g c = λ found shows. shown_by g.S.GuardedFileSystem.view g
     c.in-Ok.ensures.stays.keeps.keeps.counts (omega (arith, c.end_dir.ensures.stays.keeps.counts)) shows
 
 pub returns-clause-stays : goal.returns-clause-stays
-returns-clause-stays g c =
-    let ended = subst (λ own. EndsList (g.S.GuardedFileSystem.view.state c.read_on-members.new.fs) own
-    (g.S.GuardedFileSystem.view.state c.end_dir.new.self))
-    c.read_on-members.ensures.lister c.end_dir.ensures.stays.keeps in
-    record {
-      keeps = walk_leaves (g.S.GuardedFileSystem.listings.lister c.in-Ok.dir) _ _ _ _ c.in-Ok.ensures.stays.keeps c.read_on-members.ensures.keeps ended;
-      loan = c.end_dir.ensures.stays.loan ∙ (c.read_on-members.ensures.loan ∙ c.in-Ok.ensures.stays.loan);
-    }
+returns-clause-stays g c = listing_ended _ _ _ _ _ _ _ _ c.in-Ok.ensures.stays c.read_on-members.ensures.stays c.end_dir.ensures.stays
 
 pub returns-in-Err-clause-leads : goal.returns-in-Err-clause-leads
 returns-in-Err-clause-leads g c = unlisted _ _ _ _ none c.in-Err.ensures.done c.in-Err.ensures.stays.keeps.world

@@ -2,16 +2,13 @@ use Rattle.std.proofs.Common.{rules, [], ◌++◌, ◌∷◌, Err, refl, ◌∙�
 use Rattle.dav_store.specs.Leads.{begun as just_begun, goes_on, says}
 use Rattle.dav_store.specs.Members.{begun, goes}
 use Rattle.dav_store.proofs.Leading.{on_then}
-use Rattle.dav_store.proofs.Reading.{lister_kept, step_keeps, told_then}
-use Rattle.dav_store.proofs.Walking.{walk_on, walk_all, walk_same}
+use Rattle.dav_store.proofs.Reading.{told_then}
+use Rattle.dav_store.proofs.Staying.{listing_beside, listing_on, listing_same, listing_then}
 use Rattle.dav_store.proofs.members.read_on.Goals as goal
 
 pub entries-init : goal.entries-init
 entries-init g c = record {
-  live = c.requires.live;
-  lister = refl;
-  keeps = walk_same _ _;
-  loan = refl;
+  stays = listing_same _ _ _ _ c.requires.live;
   walk = ([], begun, c.new-members.ensures.items);
   plain = rw c.new-members.ensures.items tt;
   on = just_begun;
@@ -25,11 +22,7 @@ entries-preserved g c =
     let r = added.told.0 in
     let name = g.S.GuardedFileSystem.listings.called c.in-Ok-Some.entry in
     record {
-      live = lister_kept (g.S.GuardedFileSystem.listings.lister c.entries.dir) (g.S.GuardedFileSystem.listings.lister c.next_entry.new.dir) (g.S.GuardedFileSystem.view.state c.next_entry.new.self)
-          (g.S.GuardedFileSystem.view.state c.add_member.new.fs) c.next_entry.ensures.lister added.stays.keeps.listers c.next_entry.ensures.stays.keeps.live;
-      lister = c.next_entry.ensures.lister ∙ before.lister;
-      keeps = step_keeps _ _ _ _ _ _ before.lister before.keeps c.next_entry.ensures.stays.keeps.keeps added.stays.keeps;
-      loan = added.stays.loan ∙ (c.next_entry.ensures.stays.loan ∙ before.loan);
+      stays = listing_beside _ _ _ _ _ _ _ (listing_on _ _ _ _ _ _ _ _ before.stays c.next_entry.ensures.lister c.next_entry.ensures.stays) added.stays;
       walk = (
         answers ++ record { name = name; meta = r } ∷ [],
         goes answers c.entries.fs c.next_entry.new.self c.add_member.new.fs c.entries.dir c.next_entry.new.dir c.in-Ok-Some.entry r before.walk.1
@@ -40,9 +33,10 @@ entries-preserved g c =
       on = says _ _ _ _ _ _ _ before.on (rw c.in-Ok-Some.field-0-is at c.in-Ok-Some.ensures.done) added.told.1 added.store added.stays.keeps;
     }
 
-pub returns-in_default-clause-keeps : goal.returns-in_default-clause-keeps
-returns-in_default-clause-keeps g c =
-    step_keeps _ _ _ _ _ _ c.entries.invariant.lister c.entries.invariant.keeps c.next_entry.ensures.stays.keeps.keeps c.add_member.ensures.stays.keeps
+pub returns-in_default-clause-stays : goal.returns-in_default-clause-stays
+returns-in_default-clause-stays g c =
+    listing_beside _ _ _ _ _ _ _ (listing_on _ _ _ _ _ _ _ _ c.entries.invariant.stays c.next_entry.ensures.lister c.next_entry.ensures.stays)
+    c.add_member.ensures.stays
 
 pub returns-in_default-clause-on : goal.returns-in_default-clause-on
 returns-in_default-clause-on g c = says _ _ _ _ _ _ _ c.entries.invariant.on (rw c.in-Ok-Some.field-0-is at c.in-Ok-Some.ensures.done) c.add_member.ensures.told.1 c.add_member.ensures.store c.add_member.ensures.stays.keeps
@@ -68,29 +62,33 @@ returns-in-Ok-run_out-clause-walks g c =
       ends = c.in-Err.ensures.done;
       runs_out = c.in-Ok-run_out.ensures.ends;
       told = before.walk.2;
-      from = before.keeps.counts;
+      from = before.stays.keeps.counts;
       on = c.next_entry.ensures.stays.keeps.keeps.counts;
-      out = c.run_out.ensures.keeps.counts;
+      out = c.run_out.ensures.stays.keeps.counts;
     }
 
-pub returns-in-Ok-run_out-clause-keeps : goal.returns-in-Ok-run_out-clause-keeps
-returns-in-Ok-run_out-clause-keeps g c =
-    walk_all _ _ _ _ _ _ _ c.entries.invariant.lister c.next_entry.ensures.lister c.entries.invariant.keeps c.next_entry.ensures.stays.keeps.keeps c.run_out.ensures.keeps
+pub returns-in-Ok-run_out-clause-stays : goal.returns-in-Ok-run_out-clause-stays
+returns-in-Ok-run_out-clause-stays g c =
+    listing_then _ _ _ _ _ _ _ _ (listing_on _ _ _ _ _ _ _ _ c.entries.invariant.stays c.next_entry.ensures.lister c.next_entry.ensures.stays)
+    c.run_out.ensures.stays
 
 pub returns-in-Ok-run_out-clause-on : goal.returns-in-Ok-run_out-clause-on
 returns-in-Ok-run_out-clause-on g c =
     on_then _ _ _ _ _ _ (goes_on _ _ _ _ _ c.entries.invariant.on c.next_entry.ensures.done) _ _ c.run_out.ensures.on
 
-pub returns-in-Err-run_out-clause-keeps : goal.returns-in-Err-run_out-clause-keeps
-returns-in-Err-run_out-clause-keeps g c =
-    walk_all _ _ _ _ _ _ _ c.entries.invariant.lister c.next_entry.ensures.lister c.entries.invariant.keeps c.next_entry.ensures.stays.keeps.keeps c.run_out.ensures.keeps
+pub returns-in-Err-run_out-clause-stays : goal.returns-in-Err-run_out-clause-stays
+returns-in-Err-run_out-clause-stays g c =
+    listing_then _ _ _ _ _ _ _ _ (listing_on _ _ _ _ _ _ _ _ c.entries.invariant.stays c.next_entry.ensures.lister c.next_entry.ensures.stays)
+    c.run_out.ensures.stays
 
 pub returns-in-Err-run_out-clause-on : goal.returns-in-Err-run_out-clause-on
 returns-in-Err-run_out-clause-on g c =
     on_then _ _ _ _ _ _ (goes_on _ _ _ _ _ c.entries.invariant.on c.next_entry.ensures.done) _ _ c.run_out.ensures.on
 
-pub returns-in-Ok-None-clause-keeps : goal.returns-in-Ok-None-clause-keeps
-returns-in-Ok-None-clause-keeps g c = walk_on _ _ _ _ _ c.entries.invariant.lister c.entries.invariant.keeps c.next_entry.ensures.stays.keeps.keeps
+pub returns-in-Ok-None-clause-stays : goal.returns-in-Ok-None-clause-stays
+returns-in-Ok-None-clause-stays g c =
+    listing_on _ _ _ _ _ _ _ _ c.entries.invariant.stays c.next_entry.ensures.lister c.next_entry.ensures.stays
 
-pub returns-in-Err-NoMemory-clause-keeps : goal.returns-in-Err-NoMemory-clause-keeps
-returns-in-Err-NoMemory-clause-keeps g c = walk_on _ _ _ _ _ c.entries.invariant.lister c.entries.invariant.keeps c.next_entry.ensures.stays.keeps.keeps
+pub returns-in-Err-NoMemory-clause-stays : goal.returns-in-Err-NoMemory-clause-stays
+returns-in-Err-NoMemory-clause-stays g c =
+    listing_on _ _ _ _ _ _ _ _ c.entries.invariant.stays c.next_entry.ensures.lister c.next_entry.ensures.stays

@@ -1,17 +1,14 @@
 use Rattle.std.proofs.Common.{◌≡◌, List}
 use Rattle.std.specs.List.{AllByRecursion}
 use Rattle.dav_store.specs.Leads.{ListedOn}
-use Rattle.dav_store.specs.Listings.{HasLister, KeepsButLister, left_of}
+use Rattle.dav_store.specs.Listings.{left_of}
 use Rattle.dav_store.specs.Members.{Answered, IsNamedPlain, Walked, members_told}
+use Rattle.dav_store.specs.View.{StaysListing}
 use Rattle.dav_store.proofs.members.read_on.Given as goal
 
 abbrev pub invariant-entries : goal.invariant-entries
 invariant-entries g l = record {
-  live : HasLister (g.S.GuardedFileSystem.view.state l.fs) (g.S.GuardedFileSystem.listings.lister l.dir);
-  lister : g.S.GuardedFileSystem.listings.lister l.dir ≡ g.S.GuardedFileSystem.listings.lister l.initial.dir;
-  keeps : KeepsButLister (g.S.GuardedFileSystem.listings.lister l.initial.dir) (g.S.GuardedFileSystem.view.state l.initial.fs)
-      (g.S.GuardedFileSystem.view.state l.fs);
-  loan : g.S.GuardedFileSystem.view.loan l.fs ≡ g.S.GuardedFileSystem.view.loan l.initial.fs;
+  stays : StaysListing g.S.GuardedFileSystem.view g.S.GuardedFileSystem.listings l.initial.fs l.initial.dir l.fs l.dir;
   walk : (answers : List Answered) × Walked g.S.GuardedFileSystem.view g.S.GuardedFileSystem.listings
       l.initial.fs l.initial.dir answers l.fs l.dir × (l.members.items ≡ members_told answers);
   plain : AllByRecursion IsNamedPlain l.members.items;

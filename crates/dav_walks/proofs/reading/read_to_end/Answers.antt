@@ -1,17 +1,13 @@
-use Rattle.std.proofs.Common.{[], ◌++◌, ◌∷◌, ap, inl, inr, refl, ◌∙◌}
+use Rattle.std.proofs.Common.{[], ◌++◌, ◌∷◌, ap, inl, inr}
 use Rattle.dav_store.specs.Members.{begun, goes}
-use Rattle.dav_store.proofs.Reading.{lister_kept, step_keeps}
-use Rattle.dav_store.proofs.Walking.{walk_on, walk_same}
+use Rattle.dav_store.proofs.Staying.{listing_beside, listing_on, listing_same}
 use Rattle.dav_walks.specs.Walking.{members_at}
 use Rattle.dav_walks.proofs.steps.MembersRead.{entry_refused, none_told, told_then}
 use Rattle.dav_walks.proofs.reading.read_to_end.Goals as goal
 
 pub entries-init : goal.entries-init
 entries-init g c = record {
-  live = c.requires.live;
-  lister = refl;
-  keeps = walk_same _ _;
-  loan = refl;
+  stays = listing_same _ _ _ _ c.requires.live;
   walk = ([], begun, λ path. none_told path (members_at path c.new-members.result.items) (ap (members_at path) c.new-members.ensures.items));
 }
 
@@ -23,11 +19,7 @@ entries-preserved g c =
     let r = added.told.0 in
     let name = g.S.GuardedFileSystem.listings.called c.in-Ok-Some.entry in
     record {
-      live = lister_kept (g.S.GuardedFileSystem.listings.lister c.entries.dir) (g.S.GuardedFileSystem.listings.lister c.next_entry.new.dir) (g.S.GuardedFileSystem.view.state c.next_entry.new.self)
-          (g.S.GuardedFileSystem.view.state c.add_child.new.fs) c.next_entry.ensures.lister added.stays.keeps.listers c.next_entry.ensures.stays.keeps.live;
-      lister = c.next_entry.ensures.lister ∙ before.lister;
-      keeps = step_keeps _ _ _ _ _ _ before.lister before.keeps c.next_entry.ensures.stays.keeps.keeps added.stays.keeps;
-      loan = added.stays.loan ∙ (c.next_entry.ensures.stays.loan ∙ before.loan);
+      stays = listing_beside _ _ _ _ _ _ _ (listing_on _ _ _ _ _ _ _ _ before.stays c.next_entry.ensures.lister c.next_entry.ensures.stays) added.stays;
       walk = (
         answers ++ record { name = name; meta = r } ∷ [],
         goes answers c.entries.fs c.next_entry.new.self c.add_child.new.fs c.entries.dir c.next_entry.new.dir c.in-Ok-Some.entry r before.walk.1
@@ -53,12 +45,15 @@ returns-in-Err-add_child-clause-reads g c = λ path.
     (rw c.in-Ok-Some.field-0-is at c.in-Ok-Some.ensures.done) told.1 c.in-Err-add_child.ensures.store c.in-Err-add_child.ensures.stays.keeps)
     (told.2 path)
 
-pub returns-in-Err-add_child-clause-keeps : goal.returns-in-Err-add_child-clause-keeps
-returns-in-Err-add_child-clause-keeps g c =
-    step_keeps _ _ _ _ _ _ c.entries.invariant.lister c.entries.invariant.keeps c.next_entry.ensures.stays.keeps.keeps c.add_child.ensures.stays.keeps
+pub returns-in-Err-add_child-clause-stays : goal.returns-in-Err-add_child-clause-stays
+returns-in-Err-add_child-clause-stays g c =
+    listing_beside _ _ _ _ _ _ _ (listing_on _ _ _ _ _ _ _ _ c.entries.invariant.stays c.next_entry.ensures.lister c.next_entry.ensures.stays)
+    c.add_child.ensures.stays
 
-pub returns-in-Ok-None-clause-keeps : goal.returns-in-Ok-None-clause-keeps
-returns-in-Ok-None-clause-keeps g c = walk_on _ _ _ _ _ c.entries.invariant.lister c.entries.invariant.keeps c.next_entry.ensures.stays.keeps.keeps
+pub returns-in-Ok-None-clause-stays : goal.returns-in-Ok-None-clause-stays
+returns-in-Ok-None-clause-stays g c =
+    listing_on _ _ _ _ _ _ _ _ c.entries.invariant.stays c.next_entry.ensures.lister c.next_entry.ensures.stays
 
-pub returns-in-Err-clause-keeps : goal.returns-in-Err-clause-keeps
-returns-in-Err-clause-keeps g c = walk_on _ _ _ _ _ c.entries.invariant.lister c.entries.invariant.keeps c.next_entry.ensures.stays.keeps.keeps
+pub returns-in-Err-clause-stays : goal.returns-in-Err-clause-stays
+returns-in-Err-clause-stays g c =
+    listing_on _ _ _ _ _ _ _ _ c.entries.invariant.stays c.next_entry.ensures.lister c.next_entry.ensures.stays
