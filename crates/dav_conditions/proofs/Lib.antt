@@ -1,2 +1,3 @@
+mod OwnTag
 mod TagsCompared
 mod Unconditional

@@ -1,16 +1,20 @@
-ghost use Rattle.std.specs.Prelude.{◌≡◌, IfOk, codes, option_copied, option_map};
+ghost use Rattle.std.specs.Prelude.{◌≡◌, IfOk, IsTrue, None, Some, codes, if◌then◌else◌, option_copied, option_map, true};
+ghost use Rattle.dav_core.specs.Tags.{equal_weakly};
 ghost use Rattle.dav_model.specs.Conditions as conditions;
 ghost use Rattle.dav_conditions.specs.Standing.{stands, tag_of, time_of};
 
-use crate::fields::{date_in, first_value, list_in, may_hold_conditions};
-use crate::standing::{is_at, is_unmodified, matches_strongly, matches_weakly};
+use crate::fields::{date_in, first_value, list_in, may_hold_conditions, may_refuse, only_value};
+use crate::standing::{is_at, is_own, is_unmodified, matches_strongly, matches_weakly};
 use dav_core::{DavMetaData, DavMethod, ETag, FileTime, IfRange};
 use dav_io::NoMemory;
-use http::header::{IF_MATCH, IF_MODIFIED_SINCE, IF_NONE_MATCH, IF_RANGE, IF_UNMODIFIED_SINCE};
+use http::header::{
+    HeaderName, IF_MATCH, IF_MODIFIED_SINCE, IF_NONE_MATCH, IF_RANGE, IF_UNMODIFIED_SINCE,
+};
 use http::{HeaderMap, StatusCode};
 use std::alloc::Global;
 
 // Whether `if-match`, or without it `if-unmodified-since`, is false.
+#[tactic(auto, using(crate::proofs::Unconditional::unrefused))]
 fn is_refused<M: DavMetaData>(
     alloc: Global,
     fields: &HeaderMap,
@@ -20,6 +24,9 @@ fn is_refused<M: DavMetaData>(
         refused ≡ conditions.is_refused (conditions.list_in fields.now (codes "if-match"))
         (conditions.date_in fields.now (codes "if-unmodified-since")) (stands info) (tag_of info) (time_of info)) }
 {
+    if !may_refuse(fields) {
+        return Ok(false);
+    }
     if let Some(list) = list_in(alloc, fields, &IF_MATCH)? {
         return Ok(!matches_strongly(there, &list));
     }
@@ -36,7 +43,54 @@ pub fn reads(method: DavMethod) -> bool
     matches!(method, DavMethod::Get | DavMethod::Head)
 }
 
+// Whether the tags of `if-none-match` match what stands, where they are a list. A client that asks for what it holds
+// names one tag alone, and where that is its own no list is made.
+fn none_match<M: DavMetaData>(
+    alloc: Global,
+    fields: &HeaderMap,
+    there: Option<&M>,
+) -> Result<Option<bool>, NoMemory>
+    ensures { let info = option_map (λ m. M.info m.now) there.entry in IfOk result (λ matched. matched
+        ≡ option_map (conditions.matches equal_weakly (stands info) (tag_of info))
+        (conditions.list_in fields.now (codes "if-none-match"))) }
+{
+    if is_only_own(fields, &IF_NONE_MATCH, there) {
+        return Ok(Some(true));
+    }
+    match list_in(alloc, fields, &IF_NONE_MATCH)? {
+        Some(list) => Ok(Some(matches_weakly(there, &list))),
+        None => Ok(None),
+    }
+}
+
+// Whether the only value of a name is the tag of what stands.
+#[tactic(auto, using(crate::proofs::OwnTag::joined_only))]
+fn is_only_own<M: DavMetaData>(fields: &HeaderMap, name: &HeaderName, there: Option<&M>) -> bool
+    ensures { let info = option_map (λ m. M.info m.now) there.entry in IsTrue result
+        → option_map (conditions.matches equal_weakly (stands info) (tag_of info))
+        (conditions.list_in fields.now name.now) ≡ Some true }
+{
+    match only_value(fields, name) {
+        Some(value) => is_own(there, value),
+        None => false,
+    }
+}
+
+// The status where the tags of `if-none-match` match what stands, or where they don't.
+fn status_matched(method: DavMethod, matched: bool) -> Option<StatusCode>
+    ensures { result ≡ (if matched then Some (if conditions.reads method then 304 else 412) else None) }
+{
+    if !matched {
+        return None;
+    }
+    if reads(method) {
+        return Some(StatusCode::NOT_MODIFIED);
+    }
+    Some(StatusCode::PRECONDITION_FAILED)
+}
+
 // The status where `if-none-match`, or without it `if-modified-since` of a method that reads, is false.
+#[tactic(auto, using(crate::proofs::OwnTag::by_match))]
 fn repeated<M: DavMetaData>(
     alloc: Global,
     method: DavMethod,
@@ -47,14 +101,8 @@ fn repeated<M: DavMetaData>(
         status ≡ conditions.repeated method (conditions.list_in fields.now (codes "if-none-match"))
         (conditions.date_in fields.now (codes "if-modified-since")) (stands info) (tag_of info) (time_of info)) }
 {
-    if let Some(list) = list_in(alloc, fields, &IF_NONE_MATCH)? {
-        if !matches_weakly(there, &list) {
-            return Ok(None);
-        }
-        if reads(method) {
-            return Ok(Some(StatusCode::NOT_MODIFIED));
-        }
-        return Ok(Some(StatusCode::PRECONDITION_FAILED));
+    if let Some(matched) = none_match(alloc, fields, there)? {
+        return Ok(status_matched(method, matched));
     }
     match date_in(fields, &IF_MODIFIED_SINCE) {
         Some(date) if reads(method) && is_unmodified(there, date) => {

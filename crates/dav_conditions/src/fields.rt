@@ -3,7 +3,7 @@ ghost use Rattle.std.specs.Prelude.{◌≡◌, IfOk, option_copied};
 ghost use Rattle.std.specs.List.{list_any};
 ghost use Rattle.http_header.specs.HeaderMap.{keys};
 ghost use Rattle.dav_model.specs.Conditions as conditions;
-ghost use Rattle.dav_conditions.specs.Names.{begins_with_if as the_begins_with_if};
+ghost use Rattle.dav_conditions.specs.Names.{begins_with_if as the_begins_with_if, has_refusing_name as the_has_refusing_name, only};
 
 use dav_core::{EtagList, date_secs};
 use dav_io::{NoMemory, Octets};
@@ -28,6 +28,24 @@ pub fn may_hold_conditions(fields: &HeaderMap) -> bool
     fields.keys().any(|name| begins_with_if(name))
 }
 
+// Whether a name is as long as those of preconditions that refuse: `if-match` and `if-unmodified-since`.
+fn has_refusing_name(name: &HeaderName) -> bool
+    ensures { result ≡ the_has_refusing_name name.now }
+{
+    let len = name.as_str().len();
+    if len != 8 && len != 19 {
+        return false;
+    }
+    begins_with_if(name)
+}
+
+/// Whether a precondition that refuses may be among fields. Of requests that spare a client what it holds none is.
+pub fn may_refuse(fields: &HeaderMap) -> bool
+    ensures { result ≡ list_any the_has_refusing_name (keys fields.now) }
+{
+    fields.keys().any(|name| has_refusing_name(name))
+}
+
 /// The first value of a name.
 pub fn first_value<'a>(fields: &'a HeaderMap, name: &HeaderName) -> Option<&'a [u8]>
     ensures { option_copied result ≡ conditions.first_bytes fields.now name.now }
@@ -36,6 +54,20 @@ pub fn first_value<'a>(fields: &'a HeaderMap, name: &HeaderName) -> Option<&'a [
         Some(value) => Some(value.as_bytes()),
         None => None,
     }
+}
+
+/// The value of a name that has one alone.
+pub fn only_value<'a>(fields: &'a HeaderMap, name: &HeaderName) -> Option<&'a [u8]>
+    ensures { option_copied result ≡ only (conditions.values_of fields.now name.now) }
+{
+    let mut values = fields.get_all(name).iter();
+    let Some(first) = values.next() else {
+        return None;
+    };
+    if values.next().is_some() {
+        return None;
+    }
+    Some(first.as_bytes())
 }
 
 // All values of a name, with a comma and a space between them.
@@ -54,7 +86,8 @@ fn all_values(alloc: Global, fields: &HeaderMap, name: &HeaderName) -> Result<Oc
     Ok(Octets::new(text))
 }
 
-// The list of tags that the values of a name are.
+// The list of tags that the values of a name are. Where there is none, nothing is read.
+#[tactic(auto, using(crate::proofs::OwnTag::no_list))]
 pub fn list_in(
     alloc: Global,
     fields: &HeaderMap,
@@ -63,6 +96,9 @@ pub fn list_in(
     ensures { IfOk result (λ list. list ≡ conditions.list_in fields.now name.now) }
 {
     let text = all_values(alloc, fields, name)?;
+    if text.as_slice().is_empty() {
+        return Ok(None);
+    }
     EtagList::parse(alloc, text.as_slice())
 }
 

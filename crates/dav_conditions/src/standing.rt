@@ -1,8 +1,10 @@
 // What stands at a path, as preconditions see it. Its tag isn't made: others are compared with it.
-ghost use Rattle.std.specs.Prelude.{◌≡◌, option_map};
+ghost use Rattle.std.specs.Prelude.{◌≡◌, IfSome, IsTrue, Some, option_map, true};
 ghost use Rattle.std.specs.List.{list_any};
 ghost use Rattle.dav_core.specs.Tags.{equal_strongly, equal_weakly};
+ghost use Rattle.dav_core.specs.TagReading.{list_of};
 ghost use Rattle.dav_model.specs.Conditions as conditions;
+ghost use Rattle.dav_model.specs.Head.{quoted};
 ghost use Rattle.dav_conditions.specs.Standing.{is_equal, stands, tag_of, time_of as the_time_of};
 
 use dav_core::{DavMetaData, ETag, EtagList, FileTime};
@@ -70,6 +72,36 @@ pub fn matches_weakly<M: DavMetaData>(there: Option<&M>, list: &EtagList) -> boo
         (EtagList::Any, _) => there.is_some(),
         (EtagList::Tags(tags), Some(meta)) => is_among_weakly(meta, tags.as_slice()),
         (EtagList::Tags(_), None) => false,
+    }
+}
+
+// What stands between two quotes that are the first and the last byte.
+fn in_quotes(value: &[u8]) -> Option<&[u8]>
+    ensures { IfSome result (λ text. value.now ≡ quoted text.now) }
+{
+    let Some((first, rest)) = value.split_first() else {
+        return None;
+    };
+    let Some((last, text)) = rest.split_last() else {
+        return None;
+    };
+    if *first == b'"' && *last == b'"' {
+        return Some(text);
+    }
+    None
+}
+
+// Whether a value is the own tag, as a field writes it. It takes no memory.
+pub fn is_own<M: DavMetaData>(there: Option<&M>, value: &[u8]) -> bool
+    ensures { let info = option_map (λ m. M.info m.now) there.entry in IsTrue result
+        → option_map (conditions.matches equal_weakly (stands info) (tag_of info)) (list_of value.now) ≡ Some true }
+{
+    let Some(meta) = there else {
+        return false;
+    };
+    match in_quotes(value) {
+        Some(text) => meta.has_tag(text),
+        None => false,
     }
 }
 
