@@ -16,31 +16,13 @@
 //!     many:COUNT                      adds so many names `._000001` .. to it, from the last to the first
 //!     paths, dots, asked              the numbers of entries, and of calls that the disk was asked
 
-use crate::cache_calls::Calls;
-use crate::cache_words::{directory, event, part, size, small, tree_of};
-use dav_cache::{Told, World};
+use crate::cache_calls::{call, set_disk};
+use crate::cache_words::{event, part, size, small, tree};
+use dav_cache::{DUCacheBuilder, Event, Owned, Told, World};
 use dav_core::{FsPath, Tree};
+use dav_disk::MemDisk;
 use dav_rows::{Line, word};
 use std::alloc::Global;
-
-// The root alone, of the time 0.
-fn root(alloc: Global) -> Option<Tree> {
-    let mut rows = Vec::new(alloc);
-    rows.push(directory(FsPath::new(Vec::new(alloc)), 1, 0))
-        .ok()?;
-    tree_of(rows)
-}
-
-// The world of a row's first word. A capacity is at least one.
-fn world(alloc: Global, word: &str) -> Option<World> {
-    let callers = small(part(word, 0))?;
-    let paths = size(part(word, 1))?;
-    let dots = size(part(word, 2))?;
-    if paths == 0 || dots == 0 {
-        return None;
-    }
-    World::new(alloc, root(alloc)?, callers, paths, dots).ok()
-}
 
 /// Adds a path: its names, each behind a slash, and the root as a slash alone.
 pub fn tell_path(line: &mut Line, path: &FsPath) {
@@ -64,15 +46,39 @@ fn tell(line: &mut Line, told: &Told) {
     }
 }
 
-// Adds what is told of the event of a word.
-fn step(alloc: Global, line: &mut Line, world: &mut World, word: &str) {
-    match event(alloc, word) {
-        Some(event) => match world.step(&event) {
-            Ok(told) => tell(line, &told),
-            Err(_) => line.refuse(),
-        },
+// Adds what is told of an event.
+fn make(line: &mut Line, world: &mut World, event: &Event) {
+    match world.step(event) {
+        Ok(told) => tell(line, &told),
+        Err(_) => line.refuse(),
+    }
+}
+
+// Adds what is told of an event, where there is one.
+fn make_if(line: &mut Line, world: &mut World, event: &Option<Event>) {
+    match event {
+        Some(event) => make(line, world, event),
         None => line.refuse(),
     }
+}
+
+// The event of a word that changes the disk.
+fn change(alloc: Global, line: &mut Line, word: &str) -> Option<Event> {
+    let secs = small(line, part(word, 1));
+    match tree(alloc, line, secs, part(word, 2)) {
+        Some(tree) => Some(Event::Change { tree }),
+        None => None,
+    }
+}
+
+// Adds what is told of the event of a word.
+fn step(alloc: Global, line: &mut Line, world: &mut World, word: &str) {
+    let event = if part(word, 0) == "change" {
+        change(alloc, line, word)
+    } else {
+        event(alloc, line, word)
+    };
+    make_if(line, world, &event);
 }
 
 // Adds what is told of a row's events, with blanks between.
@@ -84,25 +90,68 @@ fn play_events(alloc: Global, line: &mut Line, world: &mut World, row: &str) {
 }
 
 // Adds what a row's calls answer, with blanks between.
-fn play_calls(line: &mut Line, calls: &mut Calls, row: &str) {
+fn play_calls(
+    alloc: Global,
+    line: &mut Line,
+    disk: &mut MemDisk,
+    memory: &mut Owned,
+    listing: &mut Option<DUCacheBuilder>,
+    row: &str,
+) {
     for (place, word) in row.split(' ').skip(1).enumerate() {
         line.add(if place == 0 { "" } else { " " });
-        calls.call(line, word);
+        call(alloc, line, disk, memory, listing, word);
+    }
+}
+
+// A row of events in the world of its first word, which begins with this tree.
+fn answer_from(alloc: Global, line: &mut Line, tree: Tree, row: &str) {
+    let first = word(row, 0);
+    let callers = small(line, part(first, 0));
+    let paths = size(line, part(first, 1));
+    let dots = size(line, part(first, 2));
+    match World::new(alloc, tree, callers, paths, dots) {
+        Ok(mut world) => play_events(alloc, line, &mut world, row),
+        Err(_) => line.refuse(),
+    }
+}
+
+fn answer_events(alloc: Global, line: &mut Line, row: &str) {
+    match tree(alloc, line, 0, "") {
+        Some(tree) => answer_from(alloc, line, tree, row),
+        None => line.refuse(),
+    }
+}
+
+// Plays calls over a memory and a disk, of which no listing was begun.
+fn answer_over(alloc: Global, line: &mut Line, disk: &mut MemDisk, memory: &mut Owned, row: &str) {
+    let mut listing = None;
+    set_disk(alloc, line, disk);
+    play_calls(alloc, line, disk, memory, &mut listing, row);
+}
+
+fn answer_by(alloc: Global, line: &mut Line, memory: &mut Owned, row: &str) {
+    match MemDisk::new(alloc) {
+        Ok(mut disk) => answer_over(alloc, line, &mut disk, memory, row),
+        Err(_) => line.refuse(),
+    }
+}
+
+fn answer_calls(alloc: Global, line: &mut Line, row: &str) {
+    let first = word(row, 0);
+    let paths = size(line, part(first, 1));
+    let dots = size(line, part(first, 2));
+    match Owned::new(alloc, paths, dots) {
+        Ok(mut memory) => answer_by(alloc, line, &mut memory, row),
+        Err(_) => line.refuse(),
     }
 }
 
 /// Adds the answer to a row.
 pub fn answer(alloc: Global, line: &mut Line, row: &str) {
-    let first = word(row, 0);
-    if part(first, 0) == "calls" {
-        match Calls::new(alloc, part(first, 1), part(first, 2)) {
-            Some(mut calls) => play_calls(line, &mut calls, row),
-            None => line.refuse(),
-        }
-        return;
-    }
-    match world(alloc, first) {
-        Some(mut world) => play_events(alloc, line, &mut world, row),
-        None => line.refuse(),
+    if part(word(row, 0), 0) == "calls" {
+        answer_calls(alloc, line, row);
+    } else {
+        answer_events(alloc, line, row);
     }
 }

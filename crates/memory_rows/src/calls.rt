@@ -13,9 +13,9 @@
 //! none. A word is `write:BYTES`, `read:COUNT`, `seek:PLACE`, `meta`, or a call with `,` in place of its blanks.
 ghost use Rattle.std.specs.Prelude.{◌≡◌, IsSome};
 
-use crate::cells::{number, path_of, show};
+use crate::cells::{bytes, number, path_of, show};
 use dav_core::{Disk, DiskError, FsPath, Handle, Kind, Meta, OpenOptions};
-use dav_rows::{Line, bytes_of, word};
+use dav_rows::{Line, word};
 use std::alloc::Global;
 
 // The most bytes of a read.
@@ -104,7 +104,7 @@ fn read<D: Disk>(alloc: Global, line: &mut Line, disk: &mut D, file: Handle, cel
     requires { IsSome ((D.state disk.old).live file.0) }
     ensures { (D.state disk.new).live ≡ (D.state disk.old).live }
 {
-    let room = number(cell).unwrap_or(0).min(MOST) as usize;
+    let room = number(line, cell).min(MOST) as usize;
     match vec![in alloc; 0u8; room] {
         Ok(mut buffer) => read_into(line, disk, file, buffer.as_mut_slice()),
         Err(_) => line.refuse(),
@@ -138,14 +138,9 @@ fn call_words<D: Disk>(
 )
     ensures { (D.state disk.new).live ≡ (D.state disk.old).live }
 {
-    let (path, to) = words;
-    match path_of(alloc, path) {
-        Some(path) => match path_of(alloc, to) {
-            Some(to) => call_path(line, disk, kind, (&path, &to)),
-            None => line.refuse(),
-        },
-        None => line.refuse(),
-    }
+    let path = path_of(alloc, line, words.0);
+    let to = path_of(alloc, line, words.1);
+    call_path(line, disk, kind, (&path, &to));
 }
 
 fn call_inside<D: Disk>(alloc: Global, line: &mut Line, disk: &mut D, part: &str)
@@ -162,10 +157,8 @@ fn seek<D: Disk>(line: &mut Line, disk: &mut D, file: Handle, cell: &str)
     requires { IsSome ((D.state disk.old).live file.0) }
     ensures { (D.state disk.new).live ≡ (D.state disk.old).live }
 {
-    match number(cell) {
-        Some(place) => show_done(line, disk.seek(file, place)),
-        None => line.refuse(),
-    }
+    let place = number(line, cell);
+    show_done(line, disk.seek(file, place));
 }
 
 // Does what a word says on an open file.
@@ -178,10 +171,10 @@ fn call_file<D: Disk>(alloc: Global, line: &mut Line, disk: &mut D, file: Handle
         "meta" => show_looked(line, disk.file_meta(file)),
         "seek" => seek(line, disk, file, second),
         "read" => read(alloc, line, disk, file, second),
-        "write" => match bytes_of(alloc, second) {
-            Ok(bytes) => write(line, disk, file, bytes.as_slice()),
-            Err(_) => line.refuse(),
-        },
+        "write" => {
+            let from = bytes(alloc, line, second);
+            write(line, disk, file, from.as_slice());
+        }
         _ => call_inside(alloc, line, disk, word),
     }
 }
@@ -199,12 +192,10 @@ fn call_open<D: Disk>(alloc: Global, line: &mut Line, disk: &mut D, file: Handle
 }
 
 fn open<D: Disk>(alloc: Global, line: &mut Line, disk: &mut D, part: &str) {
-    match path_of(alloc, word(part, 1)) {
-        Some(path) => match disk.open(&path, how_of(word(part, 2)), true) {
-            Ok(file) => call_open(alloc, line, disk, file, part),
-            Err(error) => line.add_value(&error),
-        },
-        None => line.refuse(),
+    let path = path_of(alloc, line, word(part, 1));
+    match disk.open(&path, how_of(word(part, 2)), true) {
+        Ok(file) => call_open(alloc, line, disk, file, part),
+        Err(error) => line.add_value(&error),
     }
 }
 

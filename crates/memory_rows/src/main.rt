@@ -15,17 +15,23 @@ mod scene;
 mod trees;
 
 use dav_rows::{Line, word};
+use std::alloc::Global;
 use std::io;
+
+fn answer(alloc: Global, row: &str) -> Line {
+    let mut line = Line::new(alloc);
+    if word(row, 0).contains(':') {
+        caches::answer(alloc, &mut line, row);
+    } else {
+        disks::answer(alloc, &mut line, row);
+    }
+    line
+}
 
 fn main(rt: HostRuntime) -> io::Result<()> {
     for row in rt.lines(rt.alloc()) {
-        let mut line = Line::new(rt.alloc());
         let row = row?;
-        if word(row.as_str(), 0).contains(':') {
-            caches::answer(rt.alloc(), &mut line, row.as_str());
-        } else {
-            disks::answer(rt.alloc(), &mut line, row.as_str());
-        }
+        let line = answer(rt.alloc(), row.as_str());
         println!(rt; "{}", line.as_str())?;
     }
     Ok(())

@@ -5,10 +5,10 @@
 //!     fail CALL..                   the calls of these numbers fail
 //!
 //! Each other part is a call.
-use crate::cells::{number, path_of, time_of};
+use crate::cells::{bytes, number, path_of, time_of};
 use dav_core::{Disk, FileTime, FsPath};
 use dav_disk::{MemDisk, SureDisk};
-use dav_rows::{bytes_of, word};
+use dav_rows::{Line, word};
 use std::alloc::Global;
 
 /// Whether a part is a call.
@@ -19,37 +19,44 @@ pub fn is_call(part: &str) -> bool {
     )
 }
 
-// What is to stand at a path: a directory, or a file with its bytes.
+/// What is to stand at a path: a directory, or a file with its bytes.
 #[derive(Drop)]
-struct Standing {
+pub struct Standing {
     path: FsPath,
     number: u64,
     time: FileTime,
     bytes: Option<Vec<u8>>,
 }
 
-// What a part `dir` or `file` sets.
-fn standing_of(alloc: Global, part: &str) -> Option<Standing> {
-    let number = number(word(part, 2))?;
-    let time = time_of(word(part, 3))?;
-    let path = path_of(alloc, word(part, 1))?;
-    let bytes = if word(part, 0) == "file" {
-        Some(bytes_of(alloc, word(part, 4)).ok()?)
+fn content_of(alloc: Global, line: &mut Line, part: &str) -> Option<Vec<u8>> {
+    if word(part, 0) == "file" {
+        Some(bytes(alloc, line, word(part, 4)))
     } else {
         None
-    };
-    Some(Standing {
+    }
+}
+
+// What a part `dir` or `file` sets.
+fn standing_of(alloc: Global, line: &mut Line, part: &str) -> Standing {
+    let number = number(line, word(part, 2));
+    let time = time_of(line, word(part, 3));
+    let path = path_of(alloc, line, word(part, 1));
+    let bytes = content_of(alloc, line, part);
+    Standing {
         path,
         number,
         time,
         bytes,
-    })
+    }
 }
 
 /// A disk in memory that a row sets.
 pub trait Scene: Disk {
-    /// Sets what a part says, where it is understood. What the disk doesn't take isn't set.
-    fn set(&mut self, alloc: Global, part: &str) -> Option<()>;
+    /// Sets what is to stand at a path, where the disk takes it.
+    fn stand(&mut self, line: &mut Line, new: &Standing);
+
+    /// Lets the call of this number fail.
+    fn fail_at(&mut self, line: &mut Line, call: u64);
 
     /// How often the disk was asked, and how many faults it met.
     fn counts(&self) -> (u64, u64);
@@ -80,14 +87,12 @@ fn stand_in_sure(disk: &mut SureDisk, new: &Standing) -> Option<()> {
 }
 
 impl Scene for MemDisk {
-    fn set(&mut self, alloc: Global, part: &str) -> Option<()> {
-        if part.starts_with("fail ") {
-            for word in part.split(' ').skip(1) {
-                self.fail(number(word)?).ok()?;
-            }
-            return Some(());
-        }
-        stand_in_mem(self, &standing_of(alloc, part)?)
+    fn stand(&mut self, line: &mut Line, new: &Standing) {
+        line.need(stand_in_mem(self, new));
+    }
+
+    fn fail_at(&mut self, line: &mut Line, call: u64) {
+        line.need(self.fail(call).ok());
     }
 
     fn counts(&self) -> (u64, u64) {
@@ -97,11 +102,32 @@ impl Scene for MemDisk {
 
 // It has no schedule of faults.
 impl Scene for SureDisk {
-    fn set(&mut self, alloc: Global, part: &str) -> Option<()> {
-        stand_in_sure(self, &standing_of(alloc, part)?)
+    fn stand(&mut self, line: &mut Line, new: &Standing) {
+        line.need(stand_in_sure(self, new));
+    }
+
+    fn fail_at(&mut self, line: &mut Line, _call: u64) {
+        line.refuse();
     }
 
     fn counts(&self) -> (u64, u64) {
         (self.asked(), self.faults())
+    }
+}
+
+fn fail_all<D: Scene>(line: &mut Line, disk: &mut D, part: &str) {
+    for word in part.split(' ').skip(1) {
+        let call = number(line, word);
+        disk.fail_at(line, call);
+    }
+}
+
+/// Sets what a part says, where it is understood. What the disk doesn't take isn't set.
+pub fn set<D: Scene>(alloc: Global, line: &mut Line, disk: &mut D, part: &str) {
+    if word(part, 0) == "fail" {
+        fail_all(line, disk, part);
+    } else {
+        let new = standing_of(alloc, line, part);
+        disk.stand(line, &new);
     }
 }

@@ -2,9 +2,8 @@
 ghost use Rattle.std.specs.Prelude.{◌≡◌, IsSome};
 
 use crate::calls::show_meta;
-use crate::cells::show;
+use crate::cells::{add_name, root, show};
 use dav_core::{Disk, FsPath, Handle, Kind, Lister, OpenOptions};
-use dav_io::Text;
 use dav_rows::Line;
 use std::alloc::Global;
 
@@ -14,46 +13,93 @@ const MOST: u32 = 100;
 // The most bytes that are shown of a file.
 const MOST_BYTES: usize = 64;
 
-// A path with a name more.
-fn below(alloc: Global, path: &FsPath, name: Text) -> Option<FsPath> {
-    let mut names = Vec::new(alloc);
-    for own in path.as_slice() {
-        names.push(own.try_clone().ok()?).ok()?;
-    }
-    names.push(name).ok()?;
-    if FsPath::fits(&names) {
-        Some(FsPath::new(names))
-    } else {
-        None
+fn copied(line: &mut Line, path: &FsPath) -> FsPath {
+    match path.try_clone() {
+        Ok(copy) => copy,
+        Err(_) => {
+            line.refuse();
+            root(path.allocator())
+        }
     }
 }
 
-// The paths in the directory of a listing, to its end.
+// Adds a path with a name more to the paths that were found.
+fn add_below(line: &mut Line, found: &mut Vec<FsPath>, path: &FsPath, name: &str) {
+    let mut below = copied(line, path);
+    add_name(line, &mut below, name);
+    line.need(found.push(below).ok());
+}
+
+// Adds the next path in the directory of a listing, and tells whether there was one.
 #[tactic(auto, using(crate::proofs::Listing::stays_live))]
-fn paths_of<D: Disk>(alloc: Global, disk: &mut D, path: &FsPath, at: Lister) -> Option<Vec<FsPath>>
+fn add_next<D: Disk>(
+    alloc: Global,
+    line: &mut Line,
+    disk: &mut D,
+    path: &FsPath,
+    at: Lister,
+    found: &mut Vec<FsPath>,
+) -> bool
     requires { IsSome ((D.state disk.old).listers at.0) }
     ensures { IsSome ((D.state disk.new).listers at.0) }
 {
-    let mut paths = Vec::new(alloc);
-    'names: for _ in 0..MOST {
-        match disk.list_next(alloc, at) {
-            Ok(Some(name)) => paths.push(below(alloc, path, name)?).ok()?,
-            _ => return Some(paths),
+    match disk.list_next(alloc, at) {
+        Ok(Some(name)) => {
+            add_below(line, found, path, name.as_str());
+            true
         }
+        _ => false,
     }
-    Some(paths)
 }
 
-// The paths in a directory.
-fn members<D: Disk>(alloc: Global, disk: &mut D, path: &FsPath) -> Option<Vec<FsPath>> {
+// Adds the paths in the directory of a listing, to its end.
+fn add_paths<D: Disk>(
+    alloc: Global,
+    line: &mut Line,
+    disk: &mut D,
+    path: &FsPath,
+    at: Lister,
+    found: &mut Vec<FsPath>,
+)
+    requires { IsSome ((D.state disk.old).listers at.0) }
+    ensures { IsSome ((D.state disk.new).listers at.0) }
+{
+    'names: for _ in 0..MOST {
+        if !add_next(alloc, line, disk, path, at, found) {
+            return;
+        }
+    }
+}
+
+// Adds the paths in a directory.
+fn add_members<D: Disk>(
+    alloc: Global,
+    line: &mut Line,
+    disk: &mut D,
+    path: &FsPath,
+    found: &mut Vec<FsPath>,
+) {
     match disk.list(path) {
         Ok(at) => {
-            let paths = paths_of(alloc, disk, path, at);
+            add_paths(alloc, line, disk, path, at, found);
             disk.end_list(at);
-            paths
         }
-        Err(_) => Some(Vec::new(alloc)),
+        Err(_) => {}
     }
+}
+
+// Puts the paths in a directory before those that wait, the first one first.
+fn put_before<D: Disk>(
+    alloc: Global,
+    line: &mut Line,
+    disk: &mut D,
+    path: &FsPath,
+    waiting: &mut Vec<FsPath>,
+) {
+    let mut found = Vec::new(alloc);
+    add_members(alloc, line, disk, path, &mut found);
+    found.reverse();
+    line.need(waiting.append(&mut found).ok());
 }
 
 // Adds the bytes of an open file.
@@ -103,13 +149,14 @@ fn show_kind<D: Disk>(line: &mut Line, disk: &mut D, path: &FsPath) -> Kind {
     }
 }
 
-// Adds what stands at a path, and answers the paths below it, one name on.
+// Adds what stands at a path. What is below it waits before all else.
 fn show_row<D: Disk>(
     alloc: Global,
     line: &mut Line,
     disk: &mut D,
     path: &FsPath,
-) -> Option<Vec<FsPath>> {
+    waiting: &mut Vec<FsPath>,
+) {
     show_path(line, path);
     line.add(" ");
     let kind = show_kind(line, disk, path);
@@ -118,48 +165,25 @@ fn show_row<D: Disk>(
     }
     line.add(" | ");
     if kind == Kind::Dir {
-        return members(alloc, disk, path);
+        put_before(alloc, line, disk, path, waiting);
     }
-    Some(Vec::new(alloc))
 }
 
-// Puts the paths that were found before those that wait, the first one first.
-fn put_before(waiting: &mut Vec<FsPath>, mut found: Vec<FsPath>) -> Option<()> {
-    found.reverse();
-    for path in found {
-        waiting.push(path).ok()?;
+fn show_next<D: Disk>(alloc: Global, line: &mut Line, disk: &mut D, waiting: &mut Vec<FsPath>) {
+    if let Some(path) = waiting.pop() {
+        show_row(alloc, line, disk, &path, waiting);
     }
-    Some(())
 }
 
-// Adds what stands at a path. What is below it waits before all else.
-fn show_next<D: Disk>(
-    alloc: Global,
-    line: &mut Line,
-    disk: &mut D,
-    path: &FsPath,
-    waiting: &mut Vec<FsPath>,
-) {
-    match show_row(alloc, line, disk, path) {
-        Some(found) => line.need(put_before(waiting, found)),
-        None => line.refuse(),
+fn show_waiting<D: Disk>(alloc: Global, line: &mut Line, disk: &mut D, waiting: &mut Vec<FsPath>) {
+    for _ in 0..MOST {
+        show_next(alloc, line, disk, waiting);
     }
 }
 
 /// Adds what stands on a disk: each directory before its members, which stand in the order of their names' bytes.
 pub fn show_tree<D: Disk>(alloc: Global, line: &mut Line, disk: &mut D) {
     let mut waiting = Vec::new(alloc);
-    show_next(
-        alloc,
-        line,
-        disk,
-        &FsPath::new(Vec::new(alloc)),
-        &mut waiting,
-    );
-    for _ in 1..MOST {
-        let Some(path) = waiting.pop() else {
-            return;
-        };
-        show_next(alloc, line, disk, &path, &mut waiting);
-    }
+    line.need(waiting.push(root(alloc)).ok());
+    show_waiting(alloc, line, disk, &mut waiting);
 }

@@ -1,5 +1,5 @@
 use Rattle.std.specs.Prelude.{IsSome}
-use Rattle.memory_rows.proofs.trees.paths_of.Given as goal
+use Rattle.memory_rows.proofs.trees.add_paths.Given as goal
 
 abbrev pub invariant-names : goal.invariant-names
 invariant-names g l = IsSome ((g.D.Disk.state l.disk).listers l.at.0)
