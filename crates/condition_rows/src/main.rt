@@ -12,16 +12,16 @@
 //! `nothing` where nothing stands. At `range` TAG is `strong` or `weak`, for the tag of that file at 1 s, or `none`.
 #![tactic(auto)]
 
-use anyhow::Result;
 use dav_conditions::{if_match, ranges_are_heard};
-use dav_core::{ETag, FileTime, Kind, Meta, dav_method};
+use dav_core::{DavMethod, ETag, FileTime, Kind, Meta, dav_method};
 use dav_get::slices;
 use dav_io::Octets;
-use dav_model::Ranges;
+use dav_model::{Ranges, Slice};
+use dav_rows::{Line, bytes_of, cell};
 use http::header::{HeaderName, HeaderValue};
 use http::{HeaderMap, Method};
-use percent_encoding::percent_decode;
 use std::alloc::Global;
+use std::io;
 
 // The time of a cell, within its second.
 fn time_of(cell: &str) -> Option<FileTime> {
@@ -48,92 +48,137 @@ fn meta_of(cell: &str) -> Option<Meta> {
     })
 }
 
-fn tag_of(alloc: Global, cell: &str) -> Result<Option<ETag>> {
-    if cell == "none" {
-        return Ok(None);
-    }
+// The tag of a file, weak or strong.
+fn made_tag(alloc: Global, line: &mut Line, weak: bool) -> ETag {
     let mut tag = Octets::empty(alloc);
-    tag.extend(b"1a-a-f4240")?;
-    Ok(Some(ETag {
-        weak: cell == "weak",
-        tag,
-    }))
+    line.need(tag.extend(b"1a-a-f4240").ok());
+    ETag { weak, tag }
 }
 
-fn add_field(alloc: Global, fields: &mut HeaderMap, cell: &str) -> Result<()> {
-    let mut halves = cell.splitn(2, ':');
-    let name = HeaderName::from_bytes(alloc, halves.next().unwrap_or("").as_bytes())?;
-    let mut value = Vec::new(alloc);
-    percent_decode(halves.next().unwrap_or("").as_bytes()).append_to(&mut value)?;
-    fields.append(name, HeaderValue::from_bytes(alloc, value.as_slice())?)?;
-    Ok(())
-}
-
-// The fields behind the first three cells.
-fn fields_of(alloc: Global, row: &str) -> Result<HeaderMap> {
-    let mut fields = HeaderMap::new(alloc);
-    for cell in row.split('|').skip(3) {
-        add_field(alloc, &mut fields, cell)?;
-    }
-    Ok(fields)
-}
-
-fn condition(alloc: Global, method: &str, time: &str, fields: &HeaderMap) -> Result<String> {
-    let method = dav_method(&Method::from_bytes(alloc, method.as_bytes())?)?;
-    let meta = meta_of(time);
-    match if_match(alloc, method, fields, meta.as_ref())? {
-        Some(status) => Ok(format!(in alloc; "{}", status.as_u16())?),
-        None => Ok(String::from_str(alloc, "pass")?),
+fn tag_of(alloc: Global, line: &mut Line, cell: &str) -> Option<ETag> {
+    match cell {
+        "none" => None,
+        _ => Some(made_tag(alloc, line, cell == "weak")),
     }
 }
 
-fn range(alloc: Global, tag: &str, time: &str, fields: &HeaderMap) -> Result<String> {
-    let tag = tag_of(alloc, tag)?;
-    let heard = ranges_are_heard(alloc, fields, tag.as_ref(), time_of(time))?;
-    Ok(String::from_str(alloc, if heard { "heard" } else { "off" })?)
+fn name_of(alloc: Global, text: &str) -> Option<HeaderName> {
+    HeaderName::from_bytes(alloc, text.as_bytes()).ok()
 }
 
-fn ranges_told(alloc: Global, ranges: &Ranges) -> Result<String> {
-    let mut line = String::new(alloc);
-    match ranges {
-        Ranges::Whole => line.push_str("whole")?,
-        Ranges::Unsatisfiable => line.push_str("unmet")?,
-        Ranges::Parts(parts) => {
-            for part in parts.as_slice() {
-                let text = format!(in alloc; "{}+{} ", part.start, part.count)?;
-                line.push_str(text.as_str())?;
+fn value_of(alloc: Global, text: &str) -> Option<HeaderValue> {
+    let value = bytes_of(alloc, text).ok()?;
+    HeaderValue::from_bytes(alloc, value.as_slice()).ok()
+}
+
+fn add_named(alloc: Global, fields: &mut HeaderMap, line: &mut Line, name: HeaderName, text: &str) {
+    match value_of(alloc, text) {
+        Some(value) => {
+            if fields.append(name, value).is_err() {
+                line.refuse();
             }
         }
-    }
-    Ok(line)
-}
-
-fn asked(alloc: Global, length: &str, value: &str) -> Result<String> {
-    let mut bytes = Vec::new(alloc);
-    percent_decode(value.as_bytes()).append_to(&mut bytes)?;
-    let length = length.parse::<u64>().unwrap_or(0);
-    let ranges = slices(alloc, Some(bytes.as_slice()), length)?;
-    ranges_told(alloc, &ranges)
-}
-
-fn answer(alloc: Global, row: &str) -> Result<String> {
-    let mut cells = row.split('|');
-    let word = cells.next().unwrap_or("");
-    let second = cells.next().unwrap_or("");
-    let time = cells.next().unwrap_or("");
-    let fields = fields_of(alloc, row)?;
-    match word {
-        "condition" => condition(alloc, second, time, &fields),
-        "range" => range(alloc, second, time, &fields),
-        "slices" => asked(alloc, second, time),
-        _ => Ok(String::from_str(alloc, row)?),
+        None => line.refuse(),
     }
 }
 
-fn main(rt: HostRuntime) -> Result<()> {
-    for line in rt.lines(rt.alloc()) {
-        let text = answer(rt.alloc(), line?.as_str())?;
-        println!(rt; "{text}")?;
+fn add_field(alloc: Global, fields: &mut HeaderMap, line: &mut Line, cell: &str) {
+    let (name, text) = cell.split_once(':').unwrap_or((cell, ""));
+    match name_of(alloc, name) {
+        Some(name) => add_named(alloc, fields, line, name, text),
+        None => line.refuse(),
+    }
+}
+
+// Adds the fields behind the first three cells.
+fn add_fields(alloc: Global, fields: &mut HeaderMap, line: &mut Line, row: &str) {
+    for cell in row.split('|').skip(3) {
+        add_field(alloc, fields, line, cell);
+    }
+}
+
+fn method_of(alloc: Global, word: &str) -> Option<DavMethod> {
+    let method = Method::from_bytes(alloc, word.as_bytes()).ok()?;
+    dav_method(&method).ok()
+}
+
+fn judge(alloc: Global, line: &mut Line, method: DavMethod, time: &str, fields: &HeaderMap) {
+    let meta = meta_of(time);
+    match if_match(alloc, method, fields, meta.as_ref()) {
+        Ok(Some(status)) => line.add_number("", u64::from(status.as_u16())),
+        Ok(None) => line.add("pass"),
+        Err(_) => line.refuse(),
+    }
+}
+
+fn condition(alloc: Global, line: &mut Line, row: &str, fields: &HeaderMap) {
+    match method_of(alloc, cell(row, 1)) {
+        Some(method) => judge(alloc, line, method, cell(row, 2), fields),
+        None => line.refuse(),
+    }
+}
+
+fn range(alloc: Global, line: &mut Line, row: &str, fields: &HeaderMap) {
+    let tag = tag_of(alloc, line, cell(row, 1));
+    match ranges_are_heard(alloc, fields, tag.as_ref(), time_of(cell(row, 2))) {
+        Ok(heard) => line.add(if heard { "heard" } else { "off" }),
+        Err(_) => line.refuse(),
+    }
+}
+
+fn with_fields(alloc: Global, line: &mut Line, row: &str) {
+    let mut fields = HeaderMap::new(alloc);
+    add_fields(alloc, &mut fields, line, row);
+    match cell(row, 0) {
+        "condition" => condition(alloc, line, row, &fields),
+        _ => range(alloc, line, row, &fields),
+    }
+}
+
+fn tell_parts(line: &mut Line, parts: &[Slice]) {
+    for part in parts {
+        line.add_number("", part.start);
+        line.add_number("+", part.count);
+        line.add(" ");
+    }
+}
+
+fn tell_ranges(line: &mut Line, ranges: &Ranges) {
+    match ranges {
+        Ranges::Whole => line.add("whole"),
+        Ranges::Unsatisfiable => line.add("unmet"),
+        Ranges::Parts(parts) => tell_parts(line, parts.as_slice()),
+    }
+}
+
+fn ask(alloc: Global, line: &mut Line, length: u64, value: &[u8]) {
+    match slices(alloc, Some(value), length) {
+        Ok(ranges) => tell_ranges(line, &ranges),
+        Err(_) => line.refuse(),
+    }
+}
+
+fn asked(alloc: Global, line: &mut Line, row: &str) {
+    let length = cell(row, 1).parse::<u64>().unwrap_or(0);
+    match bytes_of(alloc, cell(row, 2)) {
+        Ok(value) => ask(alloc, line, length, value.as_slice()),
+        Err(_) => line.refuse(),
+    }
+}
+
+fn answer(alloc: Global, line: &mut Line, row: &str) {
+    match cell(row, 0) {
+        "condition" | "range" => with_fields(alloc, line, row),
+        "slices" => asked(alloc, line, row),
+        _ => line.add(row),
+    }
+}
+
+fn main(rt: HostRuntime) -> io::Result<()> {
+    for row in rt.lines(rt.alloc()) {
+        let mut line = Line::new(rt.alloc());
+        answer(rt.alloc(), &mut line, row?.as_str());
+        println!(rt; "{}", line.as_str())?;
     }
     Ok(())
 }

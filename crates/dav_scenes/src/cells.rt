@@ -40,15 +40,26 @@ pub fn bytes_of(alloc: Global, text: &str) -> Result<Vec<u8>, AllocError> {
     Ok(bytes)
 }
 
+fn add_name(alloc: Global, names: &mut Vec<Text>, name: &str) -> Option<()> {
+    let name = Text::copy(alloc, name).ok()?;
+    names.push(name).ok()
+}
+
+// Adds the names of a word. They may be refused for want of memory.
+fn add_names(alloc: Global, names: &mut Vec<Text>, word: &str) -> Option<()> {
+    for name in word.split('/') {
+        if !name.is_empty() {
+            add_name(alloc, names, name)?;
+        }
+    }
+    Some(())
+}
+
 /// The path of a word, unless it has none or memory is refused.
 pub fn path_of(alloc: Global, word: &str) -> Option<FsPath> {
     let mut names = Vec::new(alloc);
-    for name in word.split('/') {
-        if !name.is_empty() {
-            names.push(Text::copy(alloc, name).ok()?).ok()?;
-        }
-    }
-    if FsPath::fits(&names) {
+    let read = add_names(alloc, &mut names, word);
+    if read.is_some() && FsPath::fits(&names) {
         Some(FsPath::new(names))
     } else {
         None

@@ -19,7 +19,7 @@ use dav_core::{DavMethod, DavMethodSet, FileTime, FsPath, dav_method};
 use dav_disk::MemDisk;
 use dav_handler::{Settings, Step};
 use dav_io::{Moment, NoMemory, Text};
-use dav_rows::Line;
+use dav_rows::{Line, word};
 use http::Method;
 use std::alloc::Global;
 
@@ -60,20 +60,29 @@ pub struct Standing {
     pub bytes: Option<Vec<u8>>,
 }
 
+// What is to stand at a path, by the words behind it.
+fn standing_at(alloc: Global, path: FsPath, part: &str) -> Option<Standing> {
+    match bytes_of(alloc, word(part, 4)) {
+        Ok(bytes) => Some(Standing {
+            path,
+            number: number(word(part, 2)),
+            time: time_of(word(part, 3)),
+            bytes: if part.starts_with("file ") {
+                Some(bytes)
+            } else {
+                None
+            },
+        }),
+        Err(_) => None,
+    }
+}
+
 /// What a part `dir` or `file` sets.
 pub fn standing_of(alloc: Global, part: &str) -> Option<Standing> {
-    let mut words = part.split(' ');
-    let is_file = words.next().unwrap_or("") == "file";
-    let path = path_of(alloc, words.next().unwrap_or(""))?;
-    let number = number(words.next().unwrap_or(""));
-    let time = time_of(words.next().unwrap_or(""));
-    let bytes = bytes_of(alloc, words.next().unwrap_or("")).ok()?;
-    Some(Standing {
-        path,
-        number,
-        time,
-        bytes: if is_file { Some(bytes) } else { None },
-    })
+    match path_of(alloc, word(part, 1)) {
+        Some(path) => standing_at(alloc, path, part),
+        None => None,
+    }
 }
 
 // Sets a directory or a file, where the disk takes it.
@@ -87,45 +96,42 @@ fn add_standing(disk: &mut MemDisk, new: &Standing) -> Result<(), NoMemory> {
     }
 }
 
-fn set_standing(alloc: Global, disk: &mut MemDisk, part: &str) -> Option<()> {
-    add_standing(disk, &standing_of(alloc, part)?).ok()
-}
-
-fn add_fails(disk: &mut MemDisk, part: &str) -> Option<()> {
-    for word in part.split(' ').skip(1) {
-        disk.fail(number(word)).ok()?;
+fn set_standing(alloc: Global, disk: &mut MemDisk, line: &mut Line, part: &str) {
+    match standing_of(alloc, part) {
+        Some(new) => line.need(add_standing(disk, &new).ok()),
+        None => line.refuse(),
     }
-    Some(())
 }
 
-// The lengths of a part. A read gives a byte at least.
-fn lens_of(alloc: Global, part: &str) -> Option<Vec<usize>> {
+fn add_fails(disk: &mut MemDisk, line: &mut Line, part: &str) {
+    for word in part.split(' ').skip(1) {
+        line.need(disk.fail(number(word)).ok());
+    }
+}
+
+// Adds the lengths of a part.
+fn add_lens(lens: &mut Vec<usize>, line: &mut Line, part: &str) {
+    for word in part.split(' ').skip(1) {
+        line.need(lens.push(number(word) as usize).ok());
+    }
+}
+
+// A read gives a byte at least.
+fn shorten(alloc: Global, disk: &mut MemDisk, line: &mut Line, part: &str) {
     let mut lens: Vec<usize> = Vec::new(alloc);
-    for word in part.split(' ').skip(1) {
-        lens.push(number(word) as usize).ok()?;
+    add_lens(&mut lens, line, part);
+    if lens.iter().all(|len| 0 < *len) {
+        disk.short(lens);
+    } else {
+        line.refuse();
     }
-    Some(lens)
 }
 
-fn shorten(alloc: Global, disk: &mut MemDisk, part: &str) -> Option<()> {
-    let lens = lens_of(alloc, part)?;
-    if !lens.iter().all(|len| 0 < *len) {
-        return None;
+fn add_batch(alloc: Global, disk: &mut MemDisk, line: &mut Line, part: &str) {
+    match batch_of(alloc, part) {
+        Some(batch) => line.need(disk.script(batch).ok()),
+        None => line.refuse(),
     }
-    disk.short(lens);
-    Some(())
-}
-
-fn add_batch(alloc: Global, disk: &mut MemDisk, part: &str) -> Option<()> {
-    disk.script(batch_of(alloc, part)?).ok()
-}
-
-fn methods_of(alloc: Global, words: &[&str]) -> Option<DavMethodSet> {
-    let mut methods = DavMethodSet::none();
-    for word in words {
-        methods.add(method_of(alloc, word)?);
-    }
-    Some(methods)
 }
 
 fn method_of(alloc: Global, word: &str) -> Option<DavMethod> {
@@ -133,81 +139,116 @@ fn method_of(alloc: Global, word: &str) -> Option<DavMethod> {
     dav_method(&method).ok()
 }
 
-fn set(alloc: Global, settings: &mut Settings, part: &str) -> Option<()> {
-    let words: Vec<&str> = part.split(' ').skip(1).collect(alloc).ok()?;
-    let name = words.first().copied().unwrap_or("");
-    let value = words.get(1).copied().unwrap_or("");
-    match name {
-        "prefix" => settings.prefix = Text::copy(alloc, value).ok()?,
-        "allow" => settings.allow = Some(methods_of(alloc, words.get(1..).unwrap_or(&[]))?),
-        "principal" => settings.principal = Some(Text::copy(alloc, value).ok()?),
-        "hide" => settings.hide_symlinks = Some(value == "yes"),
-        "autoindex" => settings.autoindex = Some(value == "yes"),
-        "index" => settings.indexfile = Some(Text::copy(alloc, value).ok()?),
-        "buffer" => settings.read_buf_size = Some(number(value) as usize),
-        "redirect" => settings.redirect = Some(value == "yes"),
-        _ => return None,
+// The methods behind a part's first two words.
+fn methods_of(alloc: Global, line: &mut Line, part: &str) -> DavMethodSet {
+    let mut methods = DavMethodSet::none();
+    for word in part.split(' ').skip(2) {
+        match method_of(alloc, word) {
+            Some(method) => methods.add(method),
+            None => line.refuse(),
+        }
     }
-    Some(())
+    methods
+}
+
+// Sets what is a text.
+fn set_text(settings: &mut Settings, name: &str, text: Text) {
+    match name {
+        "prefix" => settings.prefix = text,
+        "principal" => settings.principal = Some(text),
+        _ => settings.indexfile = Some(text),
+    }
+}
+
+// Sets what is yes or no.
+fn set_flag(settings: &mut Settings, name: &str, is_so: bool) {
+    match name {
+        "hide" => settings.hide_symlinks = Some(is_so),
+        "autoindex" => settings.autoindex = Some(is_so),
+        _ => settings.redirect = Some(is_so),
+    }
+}
+
+fn copy_text(alloc: Global, settings: &mut Settings, line: &mut Line, name: &str, value: &str) {
+    match Text::copy(alloc, value) {
+        Ok(text) => set_text(settings, name, text),
+        Err(_) => line.refuse(),
+    }
+}
+
+fn set(alloc: Global, settings: &mut Settings, line: &mut Line, part: &str) {
+    let name = word(part, 1);
+    let value = word(part, 2);
+    match name {
+        "prefix" | "principal" | "index" => copy_text(alloc, settings, line, name, value),
+        "hide" | "autoindex" | "redirect" => set_flag(settings, name, value == "yes"),
+        "allow" => settings.allow = Some(methods_of(alloc, line, part)),
+        "buffer" => settings.read_buf_size = Some(number(value) as usize),
+        _ => line.refuse(),
+    }
 }
 
 /// Sets what a part says of a disk, and answers whether it says something.
 pub fn set_disk(alloc: Global, disk: &mut MemDisk, line: &mut Line, part: &str) -> bool {
-    let done = match part.split(' ').next().unwrap_or("") {
-        "dir" | "file" => set_standing(alloc, disk, part),
-        "fail" => add_fails(disk, part),
-        "short" => shorten(alloc, disk, part),
-        "batch" => add_batch(alloc, disk, part),
+    match word(part, 0) {
+        "dir" | "file" => set_standing(alloc, disk, line, part),
+        "fail" => add_fails(disk, line, part),
+        "short" => shorten(alloc, disk, line, part),
+        "batch" => add_batch(alloc, disk, line, part),
         _ => return false,
-    };
-    line.need(done);
+    }
     true
 }
 
 // The room that a part sets.
 fn room_of(part: &str) -> Room {
-    let mut words = part.split(' ').skip(2);
     Room {
-        paths: number(words.next().unwrap_or("")) as usize,
-        dots: number(words.next().unwrap_or("")) as usize,
+        paths: number(word(part, 2)) as usize,
+        dots: number(word(part, 3)) as usize,
     }
 }
 
-// Sets what a part says of the store and its requests, and answers whether it says something.
-fn set_store(scene: &mut Scene, part: &str) -> bool {
+// Sets what a part of one word says of the store, and answers whether it says something.
+fn set_way(scene: &mut Scene, part: &str) -> bool {
     match part {
         "folds" => scene.folds = true,
         "macos" => scene.macos = true,
         "uncounted" => scene.counted = false,
-        _ => {
-            if part.starts_with("set memory ") {
-                scene.room = Some(room_of(part));
-            } else if let Some(seconds) = part.strip_prefix("now ") {
-                scene.now = moment_of(seconds);
-            } else {
-                return false;
-            }
-        }
+        _ => return false,
     }
     true
 }
 
-// Adds a part to a scene.
-fn add(alloc: Global, scene: &mut Scene, line: &mut Line, part: &str) {
-    if set_disk(alloc, &mut scene.disk, line, part) || set_store(scene, part) {
-        return;
-    }
-    line.need(if part.starts_with("set ") {
-        set(alloc, &mut scene.settings, part)
+// Adds a part to a scene that says nothing of its disk.
+fn add_other(alloc: Global, scene: &mut Scene, line: &mut Line, part: &str) {
+    if part.starts_with("set memory ") {
+        scene.room = Some(room_of(part));
+    } else if part.starts_with("set ") {
+        set(alloc, &mut scene.settings, line, part);
+    } else if let Some(seconds) = part.strip_prefix("now ") {
+        scene.now = moment_of(seconds);
     } else {
-        add_steps(alloc, &mut scene.steps, part, scene.now)
-    });
+        add_steps(alloc, &mut scene.steps, line, part, scene.now);
+    }
 }
 
-/// The scene of these parts.
-pub fn scene_of(alloc: Global, line: &mut Line, parts: &str) -> Option<Scene> {
+// Adds a part to a scene.
+fn add(alloc: Global, scene: &mut Scene, line: &mut Line, part: &str) {
+    if !set_disk(alloc, &mut scene.disk, line, part) && !set_way(scene, part) {
+        add_other(alloc, scene, line, part);
+    }
+}
+
+fn add_all(alloc: Global, scene: &mut Scene, line: &mut Line, parts: &str) {
+    for part in parts.split('|') {
+        add(alloc, scene, line, part.trim());
+    }
+}
+
+// The scene of these parts over an empty disk.
+fn scene_over(alloc: Global, line: &mut Line, disk: MemDisk, parts: &str) -> Scene {
     let mut scene = Scene {
-        disk: MemDisk::new(alloc).ok()?,
+        disk,
         settings: Settings::defaults(alloc),
         room: None,
         folds: false,
@@ -216,8 +257,14 @@ pub fn scene_of(alloc: Global, line: &mut Line, parts: &str) -> Option<Scene> {
         now: Moment(0),
         steps: Vec::new(alloc),
     };
-    for part in parts.split('|') {
-        add(alloc, &mut scene, line, part.trim());
+    add_all(alloc, &mut scene, line, parts);
+    scene
+}
+
+/// The scene of these parts.
+pub fn scene_of(alloc: Global, line: &mut Line, parts: &str) -> Option<Scene> {
+    match MemDisk::new(alloc) {
+        Ok(disk) => Some(scene_over(alloc, line, disk, parts)),
+        Err(_) => None,
     }
-    Some(scene)
 }
