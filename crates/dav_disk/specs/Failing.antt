@@ -4,9 +4,11 @@ use Rattle.std.specs.Result.{IsErrOf}
 use Rattle.dav_io.specs.Counts.{one_more}
 use Rattle.dav_core.specs.declared.handle.DiskError.{DiskError}
 use Rattle.dav_core.specs.declared.handle.DiskError.TheVariants.{Failed}
+use Rattle.dav_core.specs.Allowed.{Allowed}
 use Rattle.dav_core.specs.Disk.{DiskState}
 use Rattle.dav_core.specs.World.{World}
 use Rattle.dav_disk.specs.Calls.{Known, state_of}
+use Rattle.dav_disk.specs.Making.{MakesAt, is_spent}
 use Rattle.dav_disk.specs.Memory.{known_of}
 use Rattle.dav_disk.specs.declared.mem_disk.MemDisk.{MemDisk}
 
@@ -58,3 +60,11 @@ pub record FollowsOr
 abbrev pub UnlessFault : {T : Type 0} → Result T DiskError → Known → Known → Type 0 → Type 0
 UnlessFault (Err Failed) k n said = n ≡ k
 UnlessFault result k n said = said
+
+-- A call to which the tree allows this: it fails where its number is one of those that fail, or where a next number or a
+-- next tick isn't left, and else it is made, whole. It uses up no length, and asks for no listing.
+pub record Makes (allowed : Allowed) (old : MemDisk) (result : Result Unit DiskError) (new : MemDisk) : Type 0 where
+  pub schedule : FollowsOr (is_spent allowed (mem_world old)) old result new
+  pub made : UnlessFault result (mem_known old) (mem_known new) (MakesAt allowed (mem_known old) result (mem_known new))
+  pub lens : lens_left new ≡ lens_left old
+  pub listings : listings_of new ≡ listings_of old

@@ -4,9 +4,11 @@ use Rattle.std.specs.Result.{IsErrOf}
 use Rattle.dav_io.specs.Counts.{one_more}
 use Rattle.dav_core.specs.declared.handle.DiskError.{DiskError}
 use Rattle.dav_core.specs.declared.handle.DiskError.TheVariants.{Failed}
+use Rattle.dav_core.specs.Allowed.{Allowed}
 use Rattle.dav_core.specs.Disk.{DiskState}
 use Rattle.dav_core.specs.World.{World}
 use Rattle.dav_disk.specs.Calls.{Known, state_of}
+use Rattle.dav_disk.specs.Making.{MakesAt, is_spent}
 use Rattle.dav_disk.specs.Memory.{known_of}
 use Rattle.dav_disk.specs.declared.sure_disk.SureDisk.{SureDisk}
 
@@ -32,3 +34,10 @@ pub record FailsOnly
   pub fails : IsErrOf result Failed ↔ (spent ≡ true)
   pub once : IsErrOf result Failed → new.met ≡ one_more old.met
   pub quiet : (IsErrOf result Failed → ⊥) → new.met ≡ old.met
+
+-- A call to which the tree allows this: it fails only where a next number or a next tick isn't left, and else it is
+-- made, whole. It asks for no listing.
+pub record Makes (allowed : Allowed) (old : SureDisk) (result : Result Unit DiskError) (new : SureDisk) : Type 0 where
+  pub fails : FailsOnly (is_spent allowed (sure_world old)) old result new
+  pub made : MakesAt allowed (sure_known old) result (sure_known new)
+  pub listings : listings_of new ≡ listings_of old

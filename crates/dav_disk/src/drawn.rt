@@ -81,6 +81,28 @@ impl Drawn {
         })
     }
 
+    // Gives its rows and files, and the latest number and time, in place of others.
+    pub fn give(
+        self,
+        rows: &mut IndexedRows,
+        files: &mut BTreeMap<u64, StoredFile>,
+        greatest: &mut u64,
+        latest: &mut FileTime,
+    )
+        ensures drawn { (w : World) → record w {
+          tree = rows.new;
+          files = stored_at files.new;
+          greatest = greatest.new;
+          latest = latest.new;
+        } ≡ drawn_in self w }
+        ensures plain { ArePlain rows.new }
+    {
+        *rows = self.rows;
+        *files = self.files;
+        *greatest = self.greatest;
+        *latest = self.latest;
+    }
+
     // A directory at a free path under a directory.
     fn add_dir(&mut self, path: &FsPath) -> Result<(), NoMemory>
         ensures { OnOk result ((w : World) → drawn_in self.new w ≡ dir_added (drawn_in self.old w) path.now) }

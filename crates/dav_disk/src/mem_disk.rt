@@ -45,8 +45,10 @@ fn drop_first(lens: &mut Vec<usize>)
 impl MemDisk {
     ghost use Rattle.dav_disk.specs.Rows.{first_world, can_add as the_can_add, with_dir, with_file, with_batch};
     ghost use Rattle.dav_disk.specs.Calls.{state_of};
-    ghost use Rattle.dav_disk.specs.Failing.{mem_state, mem_world, mem_known, FollowsOr, UnlessFault, is_empty, fails_at, lens_left, listings_of};
-    ghost use Rattle.dav_disk.specs.Making.{Performs, MakesAt, allows, is_spent};
+    ghost use Rattle.dav_core.specs.Disk.{Metas, LinkMetas};
+    ghost use Rattle.dav_disk.specs.Files.{HasNoLength, SaysNoMore};
+    ghost use Rattle.dav_disk.specs.Failing.{mem_state, mem_world, Follows, Makes, is_empty, fails_at, lens_left, listings_of};
+    ghost use Rattle.dav_disk.specs.Making.{Performs, allows};
 
     /// A root directory alone, of number 1 and time 0. The latest time used is 1 second past 1970, and no call fails.
     pub fn new(alloc: Global) -> Result<Self, NoMemory>
@@ -162,15 +164,26 @@ impl MemDisk {
         self.listings
     }
 
+    // What stands at a path. There are no links.
+    fn look(&mut self, path: &FsPath) -> Result<Meta, DiskError>
+        ensures done { Metas (mem_state self.old) path.now result (mem_state self.new) }
+        ensures link { LinkMetas (mem_state self.old) path.now result (mem_state self.new) }
+        ensures more { IfOk result SaysNoMore }
+        ensures dirs { IfOk result HasNoLength }
+        ensures schedule { Follows self.old result self.new }
+        ensures lens { lens_left self.new ≡ lens_left self.old }
+        ensures listings { listings_of self.new ≡ listings_of self.old }
+    {
+        if self.faults.next() {
+            return Err(DiskError::Failed);
+        }
+        self.memory.meta(path)
+    }
+
     // Does what a call asks for, and counts it.
     fn perform(&mut self, call: PathCall) -> Result<(), DiskError>
         ensures done { Performs call.entry (mem_state self.old) result (mem_state self.new) }
-        ensures schedule { FollowsOr (is_spent (allows call.entry (mem_world self.old)) (mem_world self.old)) self.old result
-            self.new }
-        ensures made { UnlessFault result (mem_known self.old) (mem_known self.new)
-            (MakesAt (allows call.entry (mem_world self.old)) (mem_known self.old) result (mem_known self.new)) }
-        ensures lens { lens_left self.new ≡ lens_left self.old }
-        ensures listings { listings_of self.new ≡ listings_of self.old }
+        ensures made { Makes (allows call.entry (mem_world self.old)) self.old result self.new }
     {
         if self.faults.next() {
             return Err(DiskError::Failed);
@@ -187,10 +200,10 @@ impl Disk for MemDisk {
     ghost use Rattle.dav_core.specs.Allowed.{making_dir, taking_dir, taking_file, moving, copying, opening};
     ghost use Rattle.dav_core.specs.Writing.{CreatesDir, RemovesDir, RemovesFile, Renames, Copies, Writes};
     ghost use Rattle.dav_disk.specs.Listings.{AreSorted};
-    ghost use Rattle.dav_disk.specs.Failing.{mem_state, mem_world, mem_known, Follows, FollowsOr, UnlessFault, fails_at, is_empty, lens_left, listings_of};
+    ghost use Rattle.dav_disk.specs.Failing.{mem_state, mem_world, mem_known, Follows, FollowsOr, Makes, UnlessFault, fails_at, is_empty, lens_left, listings_of};
     ghost use Rattle.dav_io.specs.Counts.{one_more};
     ghost use Rattle.dav_disk.specs.Files.{HasNoLength, SaysNoMore};
-    ghost use Rattle.dav_disk.specs.Making.{MakesAt, OpensAs, WritesAt, is_spent, writing};
+    ghost use Rattle.dav_disk.specs.Making.{OpensAs, WritesAt, is_spent, writing};
     ghost use Rattle.dav_disk.specs.Calls.{with_closed};
     ghost use Rattle.dav_core.specs.Changes.{turned};
     ghost use Rattle.dav_disk.specs.Worlds.{told_world, told_live};
@@ -206,10 +219,7 @@ impl Disk for MemDisk {
         ensures lens { lens_left self.new ≡ lens_left self.old }
         ensures listings { listings_of self.new ≡ listings_of self.old }
     {
-        if self.faults.next() {
-            return Err(DiskError::Failed);
-        }
-        self.memory.meta(path)
+        self.look(path)
     }
 
     fn link_meta(&mut self, path: &FsPath) -> Result<Meta, DiskError>
@@ -221,10 +231,7 @@ impl Disk for MemDisk {
         ensures lens { lens_left self.new ≡ lens_left self.old }
         ensures listings { listings_of self.new ≡ listings_of self.old }
     {
-        if self.faults.next() {
-            return Err(DiskError::Failed);
-        }
-        self.memory.meta(path)
+        self.look(path)
     }
 
     fn open(&mut self, path: &FsPath, how: OpenOptions, _public: bool) -> Result<Handle, DiskError>
@@ -376,12 +383,7 @@ impl Disk for MemDisk {
     fn create_dir(&mut self, path: &FsPath, _public: bool) -> Result<(), DiskError>
         ensures done { CreatesDir (mem_state self.old) path.now result (mem_state self.new) }
         ensures loan { ⟦<MemDisk as Disk>⟧.loan self.new ≡ ⟦<MemDisk as Disk>⟧.loan self.old }
-        ensures schedule { FollowsOr (is_spent (making_dir (mem_world self.old).tree path.now) (mem_world self.old))
-            self.old result self.new }
-        ensures made { UnlessFault result (mem_known self.old) (mem_known self.new)
-            (MakesAt (making_dir (mem_world self.old).tree path.now) (mem_known self.old) result (mem_known self.new)) }
-        ensures lens { lens_left self.new ≡ lens_left self.old }
-        ensures listings { listings_of self.new ≡ listings_of self.old }
+        ensures made { Makes (making_dir (mem_world self.old).tree path.now) self.old result self.new }
     {
         self.perform(PathCall::CreateDir(path))
     }
@@ -389,12 +391,7 @@ impl Disk for MemDisk {
     fn remove_dir(&mut self, path: &FsPath) -> Result<(), DiskError>
         ensures done { RemovesDir (mem_state self.old) path.now result (mem_state self.new) }
         ensures loan { ⟦<MemDisk as Disk>⟧.loan self.new ≡ ⟦<MemDisk as Disk>⟧.loan self.old }
-        ensures schedule { FollowsOr (is_spent (taking_dir (mem_world self.old).tree path.now) (mem_world self.old))
-            self.old result self.new }
-        ensures made { UnlessFault result (mem_known self.old) (mem_known self.new)
-            (MakesAt (taking_dir (mem_world self.old).tree path.now) (mem_known self.old) result (mem_known self.new)) }
-        ensures lens { lens_left self.new ≡ lens_left self.old }
-        ensures listings { listings_of self.new ≡ listings_of self.old }
+        ensures made { Makes (taking_dir (mem_world self.old).tree path.now) self.old result self.new }
     {
         self.perform(PathCall::RemoveDir(path))
     }
@@ -402,12 +399,7 @@ impl Disk for MemDisk {
     fn remove_file(&mut self, path: &FsPath) -> Result<(), DiskError>
         ensures done { RemovesFile (mem_state self.old) path.now result (mem_state self.new) }
         ensures loan { ⟦<MemDisk as Disk>⟧.loan self.new ≡ ⟦<MemDisk as Disk>⟧.loan self.old }
-        ensures schedule { FollowsOr (is_spent (taking_file (mem_world self.old).tree path.now) (mem_world self.old))
-            self.old result self.new }
-        ensures made { UnlessFault result (mem_known self.old) (mem_known self.new)
-            (MakesAt (taking_file (mem_world self.old).tree path.now) (mem_known self.old) result (mem_known self.new)) }
-        ensures lens { lens_left self.new ≡ lens_left self.old }
-        ensures listings { listings_of self.new ≡ listings_of self.old }
+        ensures made { Makes (taking_file (mem_world self.old).tree path.now) self.old result self.new }
     {
         self.perform(PathCall::RemoveFile(path))
     }
@@ -415,12 +407,7 @@ impl Disk for MemDisk {
     fn rename(&mut self, from: &FsPath, to: &FsPath) -> Result<(), DiskError>
         ensures done { Renames (mem_state self.old) from.now to.now result (mem_state self.new) }
         ensures loan { ⟦<MemDisk as Disk>⟧.loan self.new ≡ ⟦<MemDisk as Disk>⟧.loan self.old }
-        ensures schedule { FollowsOr (is_spent (moving (mem_world self.old).tree from.now to.now) (mem_world self.old))
-            self.old result self.new }
-        ensures made { UnlessFault result (mem_known self.old) (mem_known self.new)
-            (MakesAt (moving (mem_world self.old).tree from.now to.now) (mem_known self.old) result (mem_known self.new)) }
-        ensures lens { lens_left self.new ≡ lens_left self.old }
-        ensures listings { listings_of self.new ≡ listings_of self.old }
+        ensures made { Makes (moving (mem_world self.old).tree from.now to.now) self.old result self.new }
     {
         self.perform(PathCall::Rename(from, to))
     }
@@ -428,12 +415,7 @@ impl Disk for MemDisk {
     fn copy(&mut self, from: &FsPath, to: &FsPath) -> Result<(), DiskError>
         ensures done { Copies (mem_state self.old) from.now to.now result (mem_state self.new) }
         ensures loan { ⟦<MemDisk as Disk>⟧.loan self.new ≡ ⟦<MemDisk as Disk>⟧.loan self.old }
-        ensures schedule { FollowsOr (is_spent (copying (mem_world self.old) from.now to.now) (mem_world self.old))
-            self.old result self.new }
-        ensures made { UnlessFault result (mem_known self.old) (mem_known self.new)
-            (MakesAt (copying (mem_world self.old) from.now to.now) (mem_known self.old) result (mem_known self.new)) }
-        ensures lens { lens_left self.new ≡ lens_left self.old }
-        ensures listings { listings_of self.new ≡ listings_of self.old }
+        ensures made { Makes (copying (mem_world self.old) from.now to.now) self.old result self.new }
     {
         self.perform(PathCall::Copy(from, to))
     }

@@ -1,4 +1,4 @@
-ghost use Rattle.std.specs.Prelude.{◌≡◌, ◌<◌, ◌≤◌, ◌⊎◌, ◌+◌, ℕ, [], length, not, is_none, None, Some, Ok, Err, Option, IfOk, OnOk, OnErr, IsSome, IfSome, true, option_map, is_some};
+ghost use Rattle.std.specs.Prelude.{◌≡◌, ◌<◌, ◌≤◌, ◌⊎◌, ◌+◌, ℕ, [], length, not, is_none, None, Some, Ok, Err, Option, IfOk, OnOk, OnErr, IsSome, IfSome, true, option_map, is_some, MatchResult};
 ghost use Rattle.dav_core.specs.Tree.{is_tree, is_file};
 ghost use Rattle.dav_core.specs.declared.tree.Kind.TheVariants.{File as AFile};
 ghost use Rattle.dav_core.specs.World.{AreGiven, ArePlain, at_key, time_of};
@@ -61,14 +61,14 @@ fn root_row(alloc: Global) -> Row
 
 impl Memory {
     ghost use Rattle.dav_disk.specs.Rows.{first_world, is_new_number, can_add as the_can_add, with_dir, with_file, with_batch};
-    ghost use Rattle.dav_disk.specs.Calls.{FindsMeta, Places, ReadsAt, with_closed, ListsAt, NextAt, with_names};
+    ghost use Rattle.dav_disk.specs.Calls.{FindsMeta, Places, ReadsAt, with_closed, with_place, ListsAt, NextAt, with_names};
     ghost use Rattle.dav_disk.specs.Memory.{known_of};
     ghost use Rattle.dav_core.specs.Disk.{FileMetaIn, kind_at};
     ghost use Rattle.dav_core.specs.Path.{is_plain};
     ghost use Rattle.dav_core.specs.Changes.{turned, changed, is_free_in, tick as the_tick};
     ghost use Rattle.dav_core.specs.Allowed.{place as the_place, making_dir, taking_dir, taking_file, moving, copying};
     ghost use Rattle.dav_core.specs.declared.handle.DiskError.TheVariants.{NoMemory as OutOfMemory};
-    ghost use Rattle.dav_disk.specs.Making.{MakesAt, OpensAs, OpensBy, WritesAt, allows, edited, filled_now, to_unit, row_is_left, move_is_left};
+    ghost use Rattle.dav_disk.specs.Making.{MakesAt, OpensAs, OpensBy, WritesAt, allows, copies, edited, filled_now, to_unit, row_is_left, move_is_left};
     ghost use Rattle.dav_core.specs.declared.tree.Kind.TheVariants.{File as TheFile};
     ghost use Rattle.dav_core.specs.Edits.{makes, fills, takes};
     ghost use Rattle.dav_core.specs.Writing.{write_place, written};
@@ -154,6 +154,14 @@ impl Memory {
         ensures { Places (known_of self.old) file.0 place (known_of self.new) }
     {
         let opened = open_file(&self.opens, file.0);
+        self.move_open(file, opened, place);
+    }
+
+    // Moves an open file to a place.
+    fn move_open(&mut self, file: Handle, opened: Opened, place: u64)
+        requires { at_key self.old.opens file.0 ≡ Some opened }
+        ensures { known_of self.new ≡ with_place (known_of self.old) file.0 (open_of opened) place }
+    {
         set_place(&mut self.opens, file.0, opened, place);
     }
 
@@ -172,7 +180,7 @@ impl Memory {
             most,
             into,
         );
-        set_place(&mut self.opens, file.0, opened, opened.place + count as u64);
+        self.move_open(file, opened, opened.place + count as u64);
         Ok(count)
     }
 
@@ -319,16 +327,12 @@ impl Memory {
         let mut drawn = Drawn::copy(&self.rows, &self.files, self.greatest, self.latest)?;
         drawn.make(self.script[0].as_slice())?;
         let _ = self.script.remove(0);
-        let Drawn {
-            rows,
-            files,
-            greatest,
-            latest,
-        } = drawn;
-        self.rows = rows;
-        self.files = files;
-        self.greatest = greatest;
-        self.latest = latest;
+        drawn.give(
+            &mut self.rows,
+            &mut self.files,
+            &mut self.greatest,
+            &mut self.latest,
+        );
         Ok(())
     }
 
@@ -346,16 +350,12 @@ impl Memory {
         if drawn.change(change).is_err() {
             return Err(DiskError::NoMemory);
         }
-        let Drawn {
-            rows,
-            files,
-            greatest,
-            latest,
-        } = drawn;
-        self.rows = rows;
-        self.files = files;
-        self.greatest = greatest;
-        self.latest = latest;
+        drawn.give(
+            &mut self.rows,
+            &mut self.files,
+            &mut self.greatest,
+            &mut self.latest,
+        );
         Ok(())
     }
 
@@ -510,12 +510,20 @@ impl Memory {
         self.store(there, copy, time)
     }
 
+    // What a copy from a path to another makes.
+    fn judge_copy(&self, from: &FsPath, to: &FsPath) -> Result<Copying, DiskError>
+        ensures { MatchResult result (λ c. copies (known_of self.now).world.tree from.now to.now ≡ Ok c)
+            (λ e. copies (known_of self.now).world.tree from.now to.now ≡ Err e) }
+    {
+        may_copy(&self.rows, from.as_slice(), to.as_slice())
+    }
+
     // Copies a file's bytes into the file at another path.
     fn copy(&mut self, from: &FsPath, to: &FsPath) -> Result<(), DiskError>
         ensures { MakesAt (copying (known_of self.old).world from.now to.now) (known_of self.old) result
             (known_of self.new) }
     {
-        match may_copy(&self.rows, from.as_slice(), to.as_slice()) {
+        match self.judge_copy(from, to) {
             Err(e) => Err(e),
             Ok(Copying::Stays) => Ok(()),
             Ok(Copying::Makes(number)) => self.copy_new(number, to),
@@ -610,7 +618,7 @@ impl Memory {
             Ok(end) => end,
             Err(e) => return Err(e),
         };
-        set_place(&mut self.opens, file.0, opened, end);
+        self.move_open(file, opened, end);
         Ok(from.len())
     }
 
@@ -719,16 +727,12 @@ impl Memory {
         if self.opens.insert(handle, opened).is_err() {
             return Err(DiskError::NoMemory);
         }
-        let Drawn {
-            rows,
-            files,
-            greatest,
-            latest,
-        } = drawn;
-        self.rows = rows;
-        self.files = files;
-        self.greatest = greatest;
-        self.latest = latest;
+        drawn.give(
+            &mut self.rows,
+            &mut self.files,
+            &mut self.greatest,
+            &mut self.latest,
+        );
         Ok(Handle(handle))
     }
 

@@ -23,8 +23,10 @@ pub struct SureDisk {
 impl SureDisk {
     ghost use Rattle.dav_disk.specs.Rows.{first_world, can_add as the_can_add, with_dir, with_file, with_batch};
     ghost use Rattle.dav_disk.specs.Calls.{state_of};
-    ghost use Rattle.dav_disk.specs.Sure.{sure_state, sure_world, sure_known, listings_of, FailsOnly};
-    ghost use Rattle.dav_disk.specs.Making.{Performs, MakesAt, allows, is_spent};
+    ghost use Rattle.dav_core.specs.Disk.{Metas, LinkMetas};
+    ghost use Rattle.dav_disk.specs.Files.{HasNoLength, SaysNoMore};
+    ghost use Rattle.dav_disk.specs.Sure.{sure_state, sure_world, listings_of, Makes};
+    ghost use Rattle.dav_disk.specs.Making.{Performs, allows};
 
     /// A root directory alone, of number 1 and time 0. The latest time used is 1 second past 1970.
     pub fn new(alloc: Global) -> Result<Self, NoMemory>
@@ -108,13 +110,23 @@ impl SureDisk {
         self.listings
     }
 
+    // What stands at a path. There are no links.
+    fn look(&mut self, path: &FsPath) -> Result<Meta, DiskError>
+        ensures done { Metas (sure_state self.old) path.now result (sure_state self.new) }
+        ensures link { LinkMetas (sure_state self.old) path.now result (sure_state self.new) }
+        ensures listings { listings_of self.new ≡ listings_of self.old }
+        ensures quiet { (sure_state self.new).faults ≡ (sure_state self.old).faults }
+        ensures more { IfOk result SaysNoMore }
+        ensures dirs { IfOk result HasNoLength }
+    {
+        self.asked = self.asked.saturating_add(1);
+        self.memory.meta(path)
+    }
+
     // Does what a call asks for, and counts it.
     fn perform(&mut self, call: PathCall) -> Result<(), DiskError>
         ensures done { Performs call.entry (sure_state self.old) result (sure_state self.new) }
-        ensures fails { FailsOnly (is_spent (allows call.entry (sure_world self.old)) (sure_world self.old)) self.old result
-            self.new }
-        ensures made { MakesAt (allows call.entry (sure_world self.old)) (sure_known self.old) result (sure_known self.new) }
-        ensures listings { listings_of self.new ≡ listings_of self.old }
+        ensures made { Makes (allows call.entry (sure_world self.old)) self.old result self.new }
     {
         self.asked = self.asked.saturating_add(1);
         let answer = self.memory.perform(call);
@@ -133,8 +145,8 @@ impl Disk for SureDisk {
     ghost use Rattle.dav_core.specs.Changes.{turned};
     ghost use Rattle.dav_disk.specs.Calls.{with_closed};
     ghost use Rattle.dav_disk.specs.Listings.{AreSorted};
-    ghost use Rattle.dav_disk.specs.Making.{MakesAt, OpensAs, WritesAt, is_spent, writing};
-    ghost use Rattle.dav_disk.specs.Sure.{sure_state, sure_world, sure_known, listings_of, FailsOnly};
+    ghost use Rattle.dav_disk.specs.Making.{OpensAs, WritesAt, is_spent, writing};
+    ghost use Rattle.dav_disk.specs.Sure.{sure_state, sure_world, sure_known, listings_of, FailsOnly, Makes};
     ghost use Rattle.dav_disk.specs.Worlds.{told_world, told_live};
 
     ghost state = { sure_state };
@@ -147,8 +159,7 @@ impl Disk for SureDisk {
         ensures more { IfOk result SaysNoMore }
         ensures dirs { IfOk result HasNoLength }
     {
-        self.asked = self.asked.saturating_add(1);
-        self.memory.meta(path)
+        self.look(path)
     }
 
     fn link_meta(&mut self, path: &FsPath) -> Result<Meta, DiskError>
@@ -159,8 +170,7 @@ impl Disk for SureDisk {
         ensures more { IfOk result SaysNoMore }
         ensures dirs { IfOk result HasNoLength }
     {
-        self.asked = self.asked.saturating_add(1);
-        self.memory.meta(path)
+        self.look(path)
     }
 
     fn open(&mut self, path: &FsPath, how: OpenOptions, _public: bool) -> Result<Handle, DiskError>
@@ -279,10 +289,7 @@ impl Disk for SureDisk {
     fn create_dir(&mut self, path: &FsPath, _public: bool) -> Result<(), DiskError>
         ensures done { CreatesDir (sure_state self.old) path.now result (sure_state self.new) }
         ensures loan { ⟦<SureDisk as Disk>⟧.loan self.new ≡ ⟦<SureDisk as Disk>⟧.loan self.old }
-        ensures listings { listings_of self.new ≡ listings_of self.old }
-        ensures fails { FailsOnly (is_spent (making_dir (sure_world self.old).tree path.now) (sure_world self.old))
-            self.old result self.new }
-        ensures made { MakesAt (making_dir (sure_world self.old).tree path.now) (sure_known self.old) result (sure_known self.new) }
+        ensures made { Makes (making_dir (sure_world self.old).tree path.now) self.old result self.new }
     {
         self.perform(PathCall::CreateDir(path))
     }
@@ -290,10 +297,7 @@ impl Disk for SureDisk {
     fn remove_dir(&mut self, path: &FsPath) -> Result<(), DiskError>
         ensures done { RemovesDir (sure_state self.old) path.now result (sure_state self.new) }
         ensures loan { ⟦<SureDisk as Disk>⟧.loan self.new ≡ ⟦<SureDisk as Disk>⟧.loan self.old }
-        ensures listings { listings_of self.new ≡ listings_of self.old }
-        ensures fails { FailsOnly (is_spent (taking_dir (sure_world self.old).tree path.now) (sure_world self.old))
-            self.old result self.new }
-        ensures made { MakesAt (taking_dir (sure_world self.old).tree path.now) (sure_known self.old) result (sure_known self.new) }
+        ensures made { Makes (taking_dir (sure_world self.old).tree path.now) self.old result self.new }
     {
         self.perform(PathCall::RemoveDir(path))
     }
@@ -301,10 +305,7 @@ impl Disk for SureDisk {
     fn remove_file(&mut self, path: &FsPath) -> Result<(), DiskError>
         ensures done { RemovesFile (sure_state self.old) path.now result (sure_state self.new) }
         ensures loan { ⟦<SureDisk as Disk>⟧.loan self.new ≡ ⟦<SureDisk as Disk>⟧.loan self.old }
-        ensures listings { listings_of self.new ≡ listings_of self.old }
-        ensures fails { FailsOnly (is_spent (taking_file (sure_world self.old).tree path.now) (sure_world self.old))
-            self.old result self.new }
-        ensures made { MakesAt (taking_file (sure_world self.old).tree path.now) (sure_known self.old) result (sure_known self.new) }
+        ensures made { Makes (taking_file (sure_world self.old).tree path.now) self.old result self.new }
     {
         self.perform(PathCall::RemoveFile(path))
     }
@@ -312,10 +313,7 @@ impl Disk for SureDisk {
     fn rename(&mut self, from: &FsPath, to: &FsPath) -> Result<(), DiskError>
         ensures done { Renames (sure_state self.old) from.now to.now result (sure_state self.new) }
         ensures loan { ⟦<SureDisk as Disk>⟧.loan self.new ≡ ⟦<SureDisk as Disk>⟧.loan self.old }
-        ensures listings { listings_of self.new ≡ listings_of self.old }
-        ensures fails { FailsOnly (is_spent (moving (sure_world self.old).tree from.now to.now) (sure_world self.old))
-            self.old result self.new }
-        ensures made { MakesAt (moving (sure_world self.old).tree from.now to.now) (sure_known self.old) result (sure_known self.new) }
+        ensures made { Makes (moving (sure_world self.old).tree from.now to.now) self.old result self.new }
     {
         self.perform(PathCall::Rename(from, to))
     }
@@ -323,10 +321,7 @@ impl Disk for SureDisk {
     fn copy(&mut self, from: &FsPath, to: &FsPath) -> Result<(), DiskError>
         ensures done { Copies (sure_state self.old) from.now to.now result (sure_state self.new) }
         ensures loan { ⟦<SureDisk as Disk>⟧.loan self.new ≡ ⟦<SureDisk as Disk>⟧.loan self.old }
-        ensures listings { listings_of self.new ≡ listings_of self.old }
-        ensures fails { FailsOnly (is_spent (copying (sure_world self.old) from.now to.now) (sure_world self.old))
-            self.old result self.new }
-        ensures made { MakesAt (copying (sure_world self.old) from.now to.now) (sure_known self.old) result (sure_known self.new) }
+        ensures made { Makes (copying (sure_world self.old) from.now to.now) self.old result self.new }
     {
         self.perform(PathCall::Copy(from, to))
     }

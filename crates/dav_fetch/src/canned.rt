@@ -1,6 +1,7 @@
 //! A peer in memory.
 ghost use Rattle.std.specs.Prelude.{◌≡◌, ◌≤◌, ◌<◌, ◌↔◌, ◌++◌, [], IsErr, IfOk, None, min, take, length};
 
+use crate::giving::give_from;
 use crate::peer::{Got, Peer, PeerFault};
 use dav_core::DavPath;
 use dav_io::{Faults, Fields, Items, Octets};
@@ -28,17 +29,6 @@ pub struct MemPeer {
     at: usize,
     faults: Faults,
     ghost inside: { at ≤ length body },
-}
-
-// Copies as many bytes as there are, and as there is room for.
-fn copy_front(rest: &[u8], into: &mut [u8]) -> usize
-    ensures count { result ≡ min (length rest.now) (length into.old) }
-    ensures copied { take result into.new ≡ take result rest.now }
-    ensures len { length into.new ≡ length into.old }
-{
-    let count = rest.len().min(into.len());
-    into[..count].copy_from_slice(&rest[..count]);
-    count
 }
 
 impl MemPeer {
@@ -110,8 +100,7 @@ impl Peer for MemPeer {
         if self.faults.next() {
             return Err(PeerFault::Failed);
         }
-        let (_, rest) = self.body.as_slice().split_at(self.at);
-        let count = copy_front(rest, into);
+        let count = give_from(self.body.as_slice(), self.at, into);
         self.at += count;
         Ok(count)
     }

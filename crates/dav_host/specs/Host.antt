@@ -50,10 +50,8 @@ refusal_of _ = None
 
 -- what it is where a directory is listed
 abbrev pub list_refusal_of : ErrorKind → Option DiskError
-list_refusal_of kind.NotFound = Some NotFound
-list_refusal_of kind.NotADirectory = Some NotDir
 list_refusal_of kind.OutOfMemory = Some NoMemory
-list_refusal_of _ = None
+list_refusal_of error = refusal_of error
 
 -- the refusals of a walk
 abbrev pub IsWalkRefusal : DiskError → Type 0
@@ -61,7 +59,7 @@ IsWalkRefusal e = (e ≡ NotFound) ⊎ (e ≡ NotDir)
 
 -- the refusals of a listing of the machine
 abbrev pub IsListRefusal : DiskError → Type 0
-IsListRefusal e = (e ≡ NotFound) ⊎ (e ≡ NotDir) ⊎ (e ≡ NoMemory)
+IsListRefusal e = IsWalkRefusal e ⊎ (e ≡ NoMemory)
 
 -- nothing is told
 pub never_told : (w : World) → None ≡ Some w → IsWorld w

@@ -1,4 +1,5 @@
 // What the machine's errors are to the calls of a disk: a refusal that the call may give, or None where it is a fault.
+// Each call is refused as a look is, or in a way of its own.
 ghost use Rattle.std.specs.Prelude.{◌≡◌, IfSome};
 ghost use Rattle.std.specs.IoError.{error_kind};
 ghost use Rattle.dav_host.specs.Host.{IsListRefusal, IsWalkRefusal, list_refusal_of, refusal_of};
@@ -27,10 +28,8 @@ pub fn list_refusal(error: &io::Error) -> Option<DiskError>
     ensures may { IfSome result IsListRefusal }
 {
     match error.kind() {
-        ErrorKind::NotFound => Some(DiskError::NotFound),
-        ErrorKind::NotADirectory => Some(DiskError::NotDir),
         ErrorKind::OutOfMemory => Some(DiskError::NoMemory),
-        _ => None,
+        _ => refusal(error),
     }
 }
 
@@ -40,11 +39,9 @@ pub fn open_refusal(error: &io::Error, may_change: bool) -> Option<DiskError>
     ensures may { IfSome result (IsOpenRefusal may_change) }
 {
     match error.kind() {
-        ErrorKind::NotFound => Some(DiskError::NotFound),
-        ErrorKind::NotADirectory => Some(DiskError::NotDir),
         ErrorKind::AlreadyExists if may_change => Some(DiskError::Exists),
         ErrorKind::IsADirectory if may_change => Some(DiskError::IsDir),
-        _ => None,
+        _ => refusal(error),
     }
 }
 
@@ -54,10 +51,8 @@ pub fn make_refusal(error: &io::Error) -> Option<DiskError>
     ensures may { IfSome result IsMakeRefusal }
 {
     match error.kind() {
-        ErrorKind::NotFound => Some(DiskError::NotFound),
-        ErrorKind::NotADirectory => Some(DiskError::NotDir),
         ErrorKind::AlreadyExists => Some(DiskError::Exists),
-        _ => None,
+        _ => refusal(error),
     }
 }
 
@@ -67,10 +62,8 @@ pub fn take_dir_refusal(error: &io::Error) -> Option<DiskError>
     ensures may { IfSome result IsTakeDirRefusal }
 {
     match error.kind() {
-        ErrorKind::NotFound => Some(DiskError::NotFound),
-        ErrorKind::NotADirectory => Some(DiskError::NotDir),
         ErrorKind::DirectoryNotEmpty | ErrorKind::AlreadyExists => Some(DiskError::NotEmpty),
-        _ => None,
+        _ => refusal(error),
     }
 }
 
@@ -80,10 +73,8 @@ pub fn file_refusal(error: &io::Error) -> Option<DiskError>
     ensures may { IfSome result IsFileRefusal }
 {
     match error.kind() {
-        ErrorKind::NotFound => Some(DiskError::NotFound),
-        ErrorKind::NotADirectory => Some(DiskError::NotDir),
         ErrorKind::IsADirectory => Some(DiskError::IsDir),
-        _ => None,
+        _ => refusal(error),
     }
 }
 
@@ -93,11 +84,8 @@ pub fn move_refusal(error: &io::Error, inside: bool) -> Option<DiskError>
     ensures may { IfSome result IsMoveRefusal }
 {
     match error.kind() {
-        ErrorKind::NotFound => Some(DiskError::NotFound),
-        ErrorKind::NotADirectory => Some(DiskError::NotDir),
         ErrorKind::IsADirectory => Some(DiskError::IsDir),
-        ErrorKind::DirectoryNotEmpty | ErrorKind::AlreadyExists => Some(DiskError::NotEmpty),
         ErrorKind::InvalidInput if inside => Some(DiskError::NotEmpty),
-        _ => None,
+        _ => take_dir_refusal(error),
     }
 }

@@ -1,8 +1,8 @@
 //! Streams of the machine. What they hold isn't told; where the machine's reader or writer tells it, each call hands on
 //! what that one says of the bytes.
-ghost use Rattle.std.specs.Prelude.{◌≡◌, ◌<◌, ◌≤◌, IfOk, length};
+ghost use Rattle.std.specs.Prelude.{◌≡◌, ◌<◌, ◌≤◌, IfOk, IsErr, length};
 ghost use Rattle.std.specs.Io.KnownBytes.{ReadConsumes, WriteAppends};
-ghost use Rattle.dav_io.specs.Counts.{CountsFault};
+ghost use Rattle.dav_io.specs.Counts.{CountsFault, Rose, one_more};
 ghost use Rattle.dav_io.specs.Outside.{Stream, Takes, Puts};
 ghost use Rattle.dav_host.specs.Host.{untold_stream};
 
@@ -54,12 +54,44 @@ pub fn write_again<W: Write>(output: &mut W, from: &[u8]) -> Result<usize, Faile
     Err(Failed)
 }
 
+// How often a stream was asked, and how often it failed. Both counts stop at the greatest u64.
+#[derive(Clone, Copy)]
+struct Counts {
+    faults: u64,
+    asked: u64,
+}
+
+impl Counts {
+    // Nothing asked yet.
+    fn none() -> Counts
+        ensures faults { result.faults ≡ 0 }
+        ensures asked { result.asked ≡ 0 }
+    {
+        Counts {
+            faults: 0,
+            asked: 0,
+        }
+    }
+
+    // A call was answered so.
+    fn note(&mut self, answer: &Result<usize, Failed>)
+        ensures faults { CountsFault answer.now self.old.faults self.new.faults }
+        ensures counts { self.old.faults ≤ self.new.faults }
+        ensures failed { IsErr answer.now → Rose self.old.faults self.new.faults }
+        ensures asked { self.new.asked ≡ one_more self.old.asked }
+    {
+        self.asked = self.asked.saturating_add(1);
+        if answer.is_err() {
+            self.faults = self.faults.saturating_add(1);
+        }
+    }
+}
+
 /// A stream of the machine that is read. It doesn't tell what it holds.
 #[derive(Drop)]
 pub struct StdSource<R: Read + Drop> {
     input: R,
-    faults: u64,
-    asked: u64,
+    counts: Counts,
 }
 
 impl<R: Read + Drop> StdSource<R> {
@@ -70,29 +102,25 @@ impl<R: Read + Drop> StdSource<R> {
     {
         StdSource {
             input,
-            faults: 0,
-            asked: 0,
+            counts: Counts::none(),
         }
     }
 }
 
 impl<R: Read + Drop> Source for StdSource<R> {
-    ghost stream = { λ s. untold_stream s.faults s.asked };
+    ghost stream = { λ s. untold_stream s.counts.faults s.counts.asked };
 
     /// It gives what the machine's reader gives, and 0 only where that one is at its end. Each error but an
     /// interruption counts one fault.
     fn take(&mut self, into: &mut [u8]) -> Result<usize, Failed>
         requires { 0 < length into.old }
-        ensures done { Takes (untold_stream self.old.faults self.old.asked) into.new result
-            (untold_stream self.new.faults self.new.asked) }
+        ensures done { Takes (untold_stream self.old.counts.faults self.old.counts.asked) into.new result
+            (untold_stream self.new.counts.faults self.new.counts.asked) }
         ensures bytes { ReadConsumes (R.remaining self.old.input) (R.remaining self.new.input) result into.new }
-        ensures faults { CountsFault result self.old.faults self.new.faults }
+        ensures faults { CountsFault result self.old.counts.faults self.new.counts.faults }
     {
-        self.asked = self.asked.saturating_add(1);
         let result = read_again(&mut self.input, into);
-        if result.is_err() {
-            self.faults = self.faults.saturating_add(1);
-        }
+        self.counts.note(&result);
         result
     }
 }
@@ -101,8 +129,7 @@ impl<R: Read + Drop> Source for StdSource<R> {
 #[derive(Drop)]
 pub struct StdSink<W: Write + Drop> {
     output: W,
-    faults: u64,
-    asked: u64,
+    counts: Counts,
 }
 
 impl<W: Write + Drop> StdSink<W> {
@@ -113,29 +140,25 @@ impl<W: Write + Drop> StdSink<W> {
     {
         StdSink {
             output,
-            faults: 0,
-            asked: 0,
+            counts: Counts::none(),
         }
     }
 }
 
 impl<W: Write + Drop> Sink for StdSink<W> {
-    ghost stream = { λ s. untold_stream s.faults s.asked };
+    ghost stream = { λ s. untold_stream s.counts.faults s.counts.asked };
 
     /// As many bytes are taken as the machine's writer took, and these went to it. Each error but an interruption
     /// counts one fault.
     fn put(&mut self, from: &[u8]) -> Result<usize, Failed>
         requires { 0 < length from.now }
-        ensures done { Puts (untold_stream self.old.faults self.old.asked) from.now result
-            (untold_stream self.new.faults self.new.asked) }
+        ensures done { Puts (untold_stream self.old.counts.faults self.old.counts.asked) from.now result
+            (untold_stream self.new.counts.faults self.new.counts.asked) }
         ensures bytes { WriteAppends (W.contents self.old.output) (W.contents self.new.output) result from.now }
-        ensures faults { CountsFault result self.old.faults self.new.faults }
+        ensures faults { CountsFault result self.old.counts.faults self.new.counts.faults }
     {
-        self.asked = self.asked.saturating_add(1);
         let result = write_again(&mut self.output, from);
-        if result.is_err() {
-            self.faults = self.faults.saturating_add(1);
-        }
+        self.counts.note(&result);
         result
     }
 }

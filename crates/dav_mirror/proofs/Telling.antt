@@ -489,13 +489,16 @@ gives_none heard own a kept into none = subst (λ k. GivesPeer (peer_in heard k 
   );
 })
 
-module _ (heard : Bool) (body own : ℕ) (a b : Stage) (kept into : List ℕ) (none : kept ≡ []) where
-  from_none : (result : Result ℕ PeerFault) (t : PeerState) → GivesPeer (peer_in heard [] (Some body) own a) into result t → GivesPeer (peer_in heard kept (Some body) own a) into result t
-  from_none result t g = subst (λ k. GivesPeer (peer_in heard k (Some body) own a) into result t) (sym none) g
+-- what a poll of the last reply's body gives, where nothing is kept of the last piece
+module _ (heard : Bool) (body own : ℕ) (at : Option ℕ) (polled : at ≡ Some body) (a b : Stage) (kept into : List ℕ) (none : kept ≡ []) where
+  from_none : (result : Result ℕ PeerFault) (more : List ℕ) → GivesPeer (peer_in heard [] (Some body) own a) into result (peer_in heard more (Some body) own b)
+      → GivesPeer (peer_in heard kept at own a) into result (peer_in heard more at own b)
+  from_none result more g = subst (λ x. GivesPeer (peer_in heard kept x own a) into result (peer_in heard more x own b)) (sym polled)
+      (subst (λ k. GivesPeer (peer_in heard k (Some body) own a) into result (peer_in heard more (Some body) own b)) (sym none) g)
 
   pub gives_piece : (piece more : List ℕ) (n : ℕ) → piece ≡ take n into ++ more → n ≡ min (length piece) (length into) → 0 < length into → AreFull a.playing
-      → Stepped a (Poll body) (Ok (Piece piece)) b → GivesPeer (peer_in heard kept (Some body) own a) into (Ok n) (peer_in heard more (Some body) own b)
-  gives_piece piece more n cut count room full (x, holds) = from_none (Ok n) (peer_in heard more (Some body) own b) (record {
+      → Stepped a (Poll body) (Ok (Piece piece)) b → GivesPeer (peer_in heard kept at own a) into (Ok n) (peer_in heard more at own b)
+  gives_piece piece more n cut count room full (x, holds) = from_none (Ok n) more (record {
     counts = omega (arith, x.goes.faults);
     is = (
       front_fits n (length piece) (length into) count,
@@ -505,8 +508,8 @@ module _ (heard : Bool) (body own : ℕ) (a b : Stage) (kept into : List ℕ) (n
     );
   })
 
-  pub gives_end : Stepped a (Poll body) (Ok End) b → (more : List ℕ) → more ≡ [] → GivesPeer (peer_in heard kept (Some body) own a) into (Ok 0) (peer_in heard more (Some body) own b)
-  gives_end (x, holds) more over = from_none (Ok 0) (peer_in heard more (Some body) own b) (subst (λ k. GivesPeer (peer_in heard [] (Some body) own a) into (Ok 0) (peer_in heard k (Some body) own b)) (sym over) (record {
+  pub gives_end : Stepped a (Poll body) (Ok End) b → (more : List ℕ) → more ≡ [] → GivesPeer (peer_in heard kept at own a) into (Ok 0) (peer_in heard more at own b)
+  gives_end (x, holds) more over = from_none (Ok 0) more (subst (λ k. GivesPeer (peer_in heard [] (Some body) own a) into (Ok 0) (peer_in heard k (Some body) own b)) (sym over) (record {
     counts = omega (arith, x.goes.faults);
     is = (
       omega arith,
@@ -515,14 +518,14 @@ module _ (heard : Bool) (body own : ℕ) (a b : Stage) (kept into : List ℕ) (n
     );
   }))
 
-  pub gives_broken : Stepped a (Poll body) (Ok Broken) b → (more : List ℕ) → more ≡ [] → GivesPeer (peer_in heard kept (Some body) own a) into (Err PeerFailed) (peer_in heard more (Some body) own b)
-  gives_broken (x, holds) more over = from_none (Err PeerFailed) (peer_in heard more (Some body) own b) (subst (λ k. GivesPeer (peer_in heard [] (Some body) own a) into (Err PeerFailed) (peer_in heard k (Some body) own b)) (sym over) (record {
+  pub gives_broken : Stepped a (Poll body) (Ok Broken) b → (more : List ℕ) → more ≡ [] → GivesPeer (peer_in heard kept at own a) into (Err PeerFailed) (peer_in heard more at own b)
+  gives_broken (x, holds) more over = from_none (Err PeerFailed) more (subst (λ k. GivesPeer (peer_in heard [] (Some body) own a) into (Err PeerFailed) (peer_in heard k (Some body) own b)) (sym over) (record {
     counts = omega (arith, x.goes.faults);
     is = (rose_more (a.at.faults + own) a.at.faults b.at.faults own (omega arith) (polled_broken heard body a.playing b.playing a.at b.at x).0, (polled_broken heard body a.playing b.playing a.at b.at x).1);
   }))
 
-  pub gives_refused : (e : NoMemory) → Stepped a (Poll body) (Err e) b → (more : List ℕ) → more ≡ [] → GivesPeer (peer_in heard kept (Some body) own a) into (Err LacksMemory) (peer_in heard more (Some body) own b)
-  gives_refused e x more over = from_none (Err LacksMemory) (peer_in heard more (Some body) own b) (subst (λ k. GivesPeer (peer_in heard [] (Some body) own a) into (Err LacksMemory) (peer_in heard k (Some body) own b)) (sym over) (record {
+  pub gives_refused : (e : NoMemory) → Stepped a (Poll body) (Err e) b → (more : List ℕ) → more ≡ [] → GivesPeer (peer_in heard kept at own a) into (Err LacksMemory) (peer_in heard more at own b)
+  gives_refused e x more over = from_none (Err LacksMemory) more (subst (λ k. GivesPeer (peer_in heard [] (Some body) own a) into (Err LacksMemory) (peer_in heard k (Some body) own b)) (sym over) (record {
     counts = omega (arith, x.goes.faults);
     is = polled_refused heard body a.playing b.playing a.at b.at x e;
   }))
@@ -623,9 +626,9 @@ told_world heard kept body a v e = by (heard && are_peer_rules a.playing.rules) 
         by_test true e = is ∙ some_world (record { world = w; left = kept ++ body_in w (left_at body a.playing) }) v e
         by_test false e = cc
 
--- The same call, of states that are the same.
-pub gives_same : (s s' t t' : PeerState) (into : List ℕ) (result : Result ℕ PeerFault) → s ≡ s' → t ≡ t' → GivesPeer s' into result t' → GivesPeer s into result t
-gives_same s s' t t' into result a b g = subst (λ z. GivesPeer z into result t) (sym a) (subst (λ z. GivesPeer s' into result z) (sym b) g)
+-- The same call, which leaves the same.
+pub gives_same : (s t t' : PeerState) (into : List ℕ) (result : Result ℕ PeerFault) → t ≡ t' → GivesPeer s into result t' → GivesPeer s into result t
+gives_same s t t' into result e g = subst (GivesPeer s into result) (sym e) g
 
 pub peer_same : (heard other : Bool) (kept : List ℕ) (body at : Option ℕ) (own more : ℕ) (a b : Stage) → other ≡ heard → at ≡ body → more ≡ own → b ≡ a
     → peer_in other kept at more b ≡ peer_in heard kept body own a

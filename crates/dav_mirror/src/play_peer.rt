@@ -6,7 +6,7 @@ ghost use Rattle.dav_model.specs.Still.{StandsAs};
 use crate::asking::{Asking, request_for};
 use dav_cache::Remember;
 use dav_core::{DavPath, Disk};
-use dav_fetch::{Got, Peer, PeerFault};
+use dav_fetch::{Got, Peer, PeerFault, give_from};
 use dav_handler::{Answer, Player, Reply, Step};
 use dav_io::{Fields, Moment, NoMemory, Octets};
 use http::Request;
@@ -38,17 +38,6 @@ pub struct PlayPeer<D: Disk, R: Remember> {
     // How many calls failed.
     failures: u64,
     ghost inside: { at ≤ length piece },
-}
-
-// Copies as many bytes as there are, and as there is room for.
-fn copy_front(rest: &[u8], into: &mut [u8]) -> usize
-    ensures count { result ≡ min (length rest.now) (length into.old) }
-    ensures copied { take result into.new ≡ take result rest.now }
-    ensures len { length into.new ≡ length into.old }
-{
-    let count = rest.len().min(into.len());
-    into[..count].copy_from_slice(&rest[..count]);
-    count
 }
 
 impl<D: Disk, R: Remember> PlayPeer<D, R> {
@@ -123,8 +112,7 @@ impl<D: Disk, R: Remember> PlayPeer<D, R> {
         ensures failures { self.new.failures ≡ self.old.failures }
         ensures len { length into.new ≡ length into.old }
     {
-        let (_, rest) = self.piece.as_slice().split_at(self.at);
-        let count = copy_front(rest, into);
+        let count = give_from(self.piece.as_slice(), self.at, into);
         self.at += count;
         count
     }

@@ -1,4 +1,4 @@
-use Rattle.std.proofs.Common.{rules}
+use Rattle.std.proofs.Common.{refl, rules}
 use Rattle.dav_core.specs.Allowed.{Allowed}
 use Rattle.dav_disk.specs.Calls.{Known}
 use Rattle.dav_disk.specs.Making.{allows, is_spent}
@@ -21,15 +21,15 @@ returns-clause-done c =
     c.noted-self.ensures.counts c.noted-self.ensures.rose c.next.ensures.asked c.next.ensures.more)
     c.args.self.now.memory.given c.perform-answer.ensures
 
-pub returns-clause-schedule : goal.returns-clause-schedule
-returns-clause-schedule c =
-    let k : Known = known_of c.args.self.now.memory in
-    let n : Known = known_of c.perform-answer.new.self in
-    let allowed : Allowed = allows c.args.call k.world in
-    follows_or (is_spent allowed k.world) c.args.self.now _ c.perform-answer.result c.next.new.self.met c.next.result c.is_fault.result (c.next.ensures.same c.if-next.false) c.if-next.false c.next.ensures.fails c.is_fault.ensures
-    (fails_spent allowed k n c.perform-answer.result c.perform-answer.ensures) (spent_fails allowed k n c.perform-answer.result c.perform-answer.ensures) c.noted-self.ensures.once c.noted-self.ensures.same (search rules) (makes_leaves allowed k n c.perform-answer.result c.perform-answer.ensures)
-
 pub returns-clause-made : goal.returns-clause-made
 returns-clause-made c =
     let k : Known = known_of c.args.self.now.memory in
-    makes_unless (allows c.args.call k.world) k (known_of c.perform-answer.new.self) c.perform-answer.result c.perform-answer.ensures
+    let n : Known = known_of c.perform-answer.new.self in
+    let allowed : Allowed = allows c.args.call k.world in
+    record {
+      schedule = follows_or (is_spent allowed k.world) c.args.self.now _ c.perform-answer.result c.next.new.self.met c.next.result c.is_fault.result (c.next.ensures.same c.if-next.false) c.if-next.false c.next.ensures.fails c.is_fault.ensures
+          (fails_spent allowed k n c.perform-answer.result c.perform-answer.ensures) (spent_fails allowed k n c.perform-answer.result c.perform-answer.ensures) c.noted-self.ensures.once c.noted-self.ensures.same (search rules) (makes_leaves allowed k n c.perform-answer.result c.perform-answer.ensures);
+      made = makes_unless allowed k n c.perform-answer.result c.perform-answer.ensures;
+      lens = refl;
+      listings = refl;
+    }

@@ -4,9 +4,8 @@ use Rattle.dav_core.specs.Writing.{can_write, appends, write_place}
 use Rattle.dav_disk.specs.Calls.{Known}
 use Rattle.dav_disk.specs.Files.{open_of, live_of, stored_at}
 use Rattle.dav_disk.specs.Memory.{known_of}
-use Rattle.dav_disk.proofs.Opened.{at_map, place_set}
-use Rattle.dav_disk.proofs.DirsStay.{kept_placed, stored_no_dir}
-use Rattle.dav_disk.proofs.GivenStay.{place_given}
+use Rattle.dav_disk.proofs.Opened.{at_map}
+use Rattle.dav_disk.proofs.DirsStay.{stored_no_dir}
 use Rattle.dav_disk.proofs.DirsStay.{written_file}
 use Rattle.dav_disk.proofs.Then.{writes_ok, writes_err, writes_not}
 use Rattle.dav_disk.proofs.memory.Memory.write.Goals as goal
@@ -20,17 +19,8 @@ write_into-requires-clause-file c =
     (c.args.self.now.kept c.args.file.0 c.open_file-opened.result c.open_file-opened.ensures
     (written_file c.open_file-opened.result (sym c.can_be_written.ensures ∙ c.if-not-can_be_written.false)))
 
-pub invariant_of-self : goal.invariant_of-self
-invariant_of-self c = record {
-  tree = c.write_into.new.self.tree;
-  plain = c.write_into.new.self.plain;
-  stored = c.write_into.new.self.stored;
-  bare = c.write_into.new.self.bare;
-  kept = kept_placed (known_of c.write_into.new.self).world.files _ _ c.args.file.0 c.open_file-opened.result _
-      (ap (λ t. at_key t c.args.file.0) c.write_into.ensures.opens ∙ c.open_file-opened.ensures) c.set_place.ensures c.write_into.new.self.kept;
-  given = place_given (known_of c.write_into.new.self).world _ _ c.args.file.0 c.open_file-opened.result _ c.write_into.new.self.given
-      (ap (λ t. at_key t c.args.file.0) c.write_into.ensures.opens ∙ c.open_file-opened.ensures) c.set_place.ensures;
-}
+pub move_open-requires : goal.move_open-requires
+move_open-requires c = ap (λ t. at_key t c.args.file.0) c.write_into.ensures.opens ∙ c.open_file-opened.ensures
 
 pub returns-then-not-can_be_written : goal.returns-then-not-can_be_written
 returns-then-not-can_be_written c =
@@ -55,6 +45,4 @@ returns c =
       opened = at_map open_of _ _ c.open_file-opened.ensures;
       can = ap can_write live ∙ sym c.can_be_written.ensures ∙ c.if-not-can_be_written.false;
       at = c.place_of-place.ensures ∙ ap (λ l. write_place (appends l) k.world (open_of c.open_file-opened.result)) (sym live);
-    }) c.in-Ok.ensures.made c.in-Ok.ensures.end
-    (place_set (known_of c.write_into.new.self).world _ _ c.args.file.0 c.open_file-opened.result c.in-Ok.end
-    (ap (λ t. at_key t c.args.file.0) c.write_into.ensures.opens ∙ c.open_file-opened.ensures) c.set_place.ensures)
+    }) c.in-Ok.ensures.made c.in-Ok.ensures.end c.move_open.ensures

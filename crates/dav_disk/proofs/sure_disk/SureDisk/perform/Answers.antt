@@ -17,13 +17,17 @@ returns-clause-done c =
     c.noted-self.ensures.counts c.noted-self.ensures.rose c.saturating_add-self.ensures (omega arith))
     c.args.self.now.memory.given c.perform-answer.ensures
 
-pub returns-clause-fails : goal.returns-clause-fails
-returns-clause-fails c =
+pub returns-clause-made : goal.returns-clause-made
+returns-clause-made c =
     let k : Known = known_of c.args.self.now.memory in
     let n : Known = known_of c.perform-answer.new.self in
     let allowed : Allowed = allows c.args.call k.world in
-    fails_only (is_spent allowed k.world) c.args.self.now _ c.perform-answer.result c.is_fault.result c.is_fault.ensures
-    (fails_spent allowed k n c.perform-answer.result c.perform-answer.ensures) (spent_fails allowed k n c.perform-answer.result c.perform-answer.ensures) c.noted-self.ensures.once c.noted-self.ensures.same
+    record {
+      fails = fails_only (is_spent allowed k.world) c.args.self.now _ c.perform-answer.result c.is_fault.result c.is_fault.ensures
+          (fails_spent allowed k n c.perform-answer.result c.perform-answer.ensures) (spent_fails allowed k n c.perform-answer.result c.perform-answer.ensures) c.noted-self.ensures.once c.noted-self.ensures.same;
+      made = c.perform-answer.ensures;
+      listings = refl;
+    }
 
 pub invariant_of-self : goal.invariant_of-self
 invariant_of-self c =

@@ -1,4 +1,4 @@
-use Rattle.std.proofs.Common.{◌≡◌, ◌<◌, ◌∙◌, [], Some, ap, drop, length, min, refl, sym, arith}
+use Rattle.std.proofs.Common.{◌≡◌, ◌<◌, ◌∙◌, [], ap, drop, length, min, sym, arith}
 use Rattle.std.proofs.lemmas.List.{drop_all}
 use Rattle.dav_model.specs.Bodies.{read_size_of}
 use Rattle.dav_model.specs.declared.answer.Answer.TheVariants.{Broken, End, Piece}
@@ -15,17 +15,15 @@ use Rattle.dav_mirror.proofs.play_peer.PlayPeerPeer.piece.Goals as goal
 pub returns-in-Ok-Piece-clause-gives : goal.returns-in-Ok-Piece-clause-gives
 returns-in-Ok-Piece-clause-gives g c =
     let p = c.args.self.now in
-    let kept = drop p.at p.piece in
     let t = c.give-in-Ok-Piece.new.self in
     let e = c.give-in-Ok-Piece.ensures in
     let a = stage_of p.player in
     let b = stage_of c.poll_over.new.self in
-    let none : kept ≡ [] = drop_all p.at p.piece (omega (arith, c.if-self-as_slice.false, ap length c.as_slice.ensures)) in
+    let none : drop p.at p.piece ≡ [] = drop_all p.at p.piece (omega (arith, c.if-self-as_slice.false, ap length c.as_slice.ensures)) in
     let room : 0 < length c.give-in-Ok-Piece.new.into = omega (arith, c.requires, e.len) in
-    gives_same (peer_of p) (peer_in p.heard kept (Some c.in-Some.body) p.refused a) (peer_of t) (peer_in p.heard (drop t.at t.piece) (Some c.in-Some.body) p.refused b) _ _
-    (peer_same p.heard p.heard kept (Some c.in-Some.body) p.body p.refused p.refused a a refl c.in-Some.is refl refl)
-    (peer_same p.heard t.heard (drop t.at t.piece) (Some c.in-Some.body) t.body p.refused t.refused b (stage_of t.player) e.body.1 (e.body.0 ∙ c.in-Some.is) e.refused e.stage)
-    (gives_piece p.heard c.in-Some.body p.refused a b kept c.give-in-Ok-Piece.new.into none c.in-Ok-Piece.piece (drop t.at t.piece) c.give-in-Ok-Piece.result e.given
+    gives_same (peer_of p) (peer_of t) (peer_in p.heard (drop t.at t.piece) p.body p.refused b) _ _
+    (peer_same p.heard t.heard (drop t.at t.piece) p.body t.body p.refused t.refused b (stage_of t.player) e.body.1 e.body.0 e.refused e.stage)
+    (gives_piece p.heard c.in-Some.body p.refused p.body c.in-Some.is a b (drop p.at p.piece) c.give-in-Ok-Piece.new.into none c.in-Ok-Piece.piece (drop t.at t.piece) c.give-in-Ok-Piece.result e.given
     (e.count ∙ ap (min (length c.in-Ok-Piece.piece)) (sym e.len)) room
     (stays_full (read_size_of p.player.settings.read_buf_size) (g.D.Disk.state p.player.store.disk) (body_at p.player.bodies) (by_store g.R.Remember.state p.player.settings p.player.store) p.player.replies p.player.replies p.player.ok)
     (stepped_as a b (Poll c.in-Some.body) c.in-Ok-Piece.field-0 (Piece c.in-Ok-Piece.piece) c.in-Ok-Piece.field-0-is c.in-Ok-Piece.ensures.done))
@@ -33,28 +31,16 @@ returns-in-Ok-Piece-clause-gives g c =
 pub returns-in-Ok-Broken-clause-gives : goal.returns-in-Ok-Broken-clause-gives
 returns-in-Ok-Broken-clause-gives g c =
     let p = c.args.self.now in
-    let kept = drop p.at p.piece in
-    let a = stage_of p.player in
-    let b = stage_of c.poll_over.new.self in
-    let none : kept ≡ [] = drop_all p.at p.piece (omega (arith, c.if-self-as_slice.false, ap length c.as_slice.ensures)) in
-    gives_same (peer_of p) (peer_in p.heard kept (Some c.in-Some.body) p.refused a) _ (peer_in p.heard c.replace.new.dest (Some c.in-Some.body) p.refused b) _ _
-    (peer_same p.heard p.heard kept (Some c.in-Some.body) p.body p.refused p.refused a a refl c.in-Some.is refl refl)
-    (peer_same p.heard p.heard c.replace.new.dest (Some c.in-Some.body) p.body p.refused p.refused b b refl c.in-Some.is refl refl)
-    (gives_broken p.heard c.in-Some.body p.refused a b kept c.args.into.now none
-    (stepped_as a b (Poll c.in-Some.body) c.in-Ok-Broken.field-0 Broken c.in-Ok-Broken.field-0-is c.in-Ok-Broken.ensures.done) c.replace.new.dest (c.replace.ensures.after ∙ c.empty.ensures))
+    let none : drop p.at p.piece ≡ [] = drop_all p.at p.piece (omega (arith, c.if-self-as_slice.false, ap length c.as_slice.ensures)) in
+    gives_broken p.heard c.in-Some.body p.refused p.body c.in-Some.is (stage_of p.player) (stage_of c.poll_over.new.self) (drop p.at p.piece) c.args.into.now none
+    (stepped_as (stage_of p.player) (stage_of c.poll_over.new.self) (Poll c.in-Some.body) c.in-Ok-Broken.field-0 Broken c.in-Ok-Broken.field-0-is c.in-Ok-Broken.ensures.done) c.replace.new.dest (c.replace.ensures.after ∙ c.empty.ensures)
 
 pub returns-in-Ok-End-clause-gives : goal.returns-in-Ok-End-clause-gives
 returns-in-Ok-End-clause-gives g c =
     let p = c.args.self.now in
-    let kept = drop p.at p.piece in
-    let a = stage_of p.player in
-    let b = stage_of c.poll_over.new.self in
-    let none : kept ≡ [] = drop_all p.at p.piece (omega (arith, c.if-self-as_slice.false, ap length c.as_slice.ensures)) in
-    gives_same (peer_of p) (peer_in p.heard kept (Some c.in-Some.body) p.refused a) _ (peer_in p.heard c.replace.new.dest (Some c.in-Some.body) p.refused b) _ _
-    (peer_same p.heard p.heard kept (Some c.in-Some.body) p.body p.refused p.refused a a refl c.in-Some.is refl refl)
-    (peer_same p.heard p.heard c.replace.new.dest (Some c.in-Some.body) p.body p.refused p.refused b b refl c.in-Some.is refl refl)
-    (gives_end p.heard c.in-Some.body p.refused a b kept c.args.into.now none
-    (stepped_as a b (Poll c.in-Some.body) c.in-Ok-End.field-0 End c.in-Ok-End.field-0-is c.in-Ok-End.ensures.done) c.replace.new.dest (c.replace.ensures.after ∙ c.empty.ensures))
+    let none : drop p.at p.piece ≡ [] = drop_all p.at p.piece (omega (arith, c.if-self-as_slice.false, ap length c.as_slice.ensures)) in
+    gives_end p.heard c.in-Some.body p.refused p.body c.in-Some.is (stage_of p.player) (stage_of c.poll_over.new.self) (drop p.at p.piece) c.args.into.now none
+    (stepped_as (stage_of p.player) (stage_of c.poll_over.new.self) (Poll c.in-Some.body) c.in-Ok-End.field-0 End c.in-Ok-End.field-0-is c.in-Ok-End.ensures.done) c.replace.new.dest (c.replace.ensures.after ∙ c.empty.ensures)
 
 pub returns-in-Ok-Reply-clause-gives : goal.returns-in-Ok-Reply-clause-gives
 returns-in-Ok-Reply-clause-gives g c =
@@ -67,11 +53,6 @@ returns-in-Ok-Done-clause-gives g c =
 pub returns-clause-gives : goal.returns-clause-gives
 returns-clause-gives g c =
     let p = c.args.self.now in
-    let kept = drop p.at p.piece in
-    let a = stage_of p.player in
-    let b = stage_of c.poll_over.new.self in
-    let none : kept ≡ [] = drop_all p.at p.piece (omega (arith, c.if-self-as_slice.false, ap length c.as_slice.ensures)) in
-    gives_same (peer_of p) (peer_in p.heard kept (Some c.in-Some.body) p.refused a) _ (peer_in p.heard c.replace.new.dest (Some c.in-Some.body) p.refused b) _ _
-    (peer_same p.heard p.heard kept (Some c.in-Some.body) p.body p.refused p.refused a a refl c.in-Some.is refl refl)
-    (peer_same p.heard p.heard c.replace.new.dest (Some c.in-Some.body) p.body p.refused p.refused b b refl c.in-Some.is refl refl)
-    (gives_refused p.heard c.in-Some.body p.refused a b kept c.args.into.now none c.in-Err.field-0 c.in-Err.ensures.done c.replace.new.dest (c.replace.ensures.after ∙ c.empty.ensures))
+    let none : drop p.at p.piece ≡ [] = drop_all p.at p.piece (omega (arith, c.if-self-as_slice.false, ap length c.as_slice.ensures)) in
+    gives_refused p.heard c.in-Some.body p.refused p.body c.in-Some.is (stage_of p.player) (stage_of c.poll_over.new.self) (drop p.at p.piece) c.args.into.now none
+    c.in-Err.field-0 c.in-Err.ensures.done c.replace.new.dest (c.replace.ensures.after ∙ c.empty.ensures)
