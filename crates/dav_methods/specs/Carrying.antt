@@ -16,6 +16,7 @@ use Rattle.dav_walks.specs.declared.work.Work.TheVariants.{Whole}
 use Rattle.dav_walks.specs.Copying.{Copies}
 use Rattle.dav_model.specs.Destination.{Asks}
 use Rattle.dav_walks.specs.Lines.{Line, fails_when}
+use Rattle.dav_methods.specs.declared.carrying.Carriage.{Carriage}
 use Rattle.dav_methods.specs.Lines.{first_of, is_dir_there, is_there, made, refused, refused_but_missing, silent, unless, unmet}
 use Rattle.dav_model.specs.Overlap.{overlap}
 use Rattle.dav_walks.specs.Removing.{Removes}
@@ -34,6 +35,10 @@ may_take_place replaces there = first_of (refused_but_missing there ∷ fails_wh
 -- what goes from the source, by what was found there
 abbrev pub transfer : WebPath → Asked → Result Info FsError → Transfer
 transfer path asked found = record { from = path; to = asked.to; dir = is_dir_there found }
+
+-- the same for what a private function holds
+abbrev pub carried : Carriage → Transfer
+carried carriage = record { from = carriage.path.now; to = carriage.asked.to; dir = carriage.dir }
 
 module _ {S C F L E : Type 0} (view : View S C F) (lists : Listings S C L E) (c : C) where
   -- What follows by whether the store folds names.

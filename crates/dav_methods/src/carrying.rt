@@ -1,12 +1,12 @@
 //! COPY and MOVE: what stands at a path is copied or moved to another, in place of what stands there.
 ghost use Rattle.std.specs.Prelude.{◌≡◌, ◌⊎◌, Ok, Err};
-ghost use Rattle.dav_methods.specs.Carrying.{Arrives, CopiesTo, CopyMoves, Goes, Leaves, MovesTo, Replaces};
+ghost use Rattle.dav_methods.specs.Carrying.{Arrives, Carries, CopiesTo, Goes, MovesTo, Replaces, carried};
 ghost use Rattle.dav_model.specs.CarryPlans.{method_of as the_method_of};
 ghost use Rattle.dav_walks.specs.Lines.{fails_when};
 ghost use Rattle.dav_model.specs.Overlap.{overlap};
 ghost use Rattle.dav_store.specs.View.{StaysOpen};
 ghost use Rattle.dav_methods.specs.Deleting.{LooksAtLink};
-ghost use Rattle.dav_methods.specs.Table.{Next, Unless};
+ghost use Rattle.dav_methods.specs.Table.{Below, Next, Unless};
 
 use crate::destination::asked;
 use crate::lines::{pass_met, pass_missing, pass_parent};
@@ -15,9 +15,17 @@ use crate::overlap::overlaps;
 use dav_core::{DavError, DavMetaData, DavMethod, DavPath, FsError};
 use dav_model::{Asked, Outcome};
 use dav_store::GuardedFileSystem;
-use dav_walks::{copy_all, line_of, remove_all};
+use dav_walks::{Copied, copy_all, line_of, remove_all};
 use http::{HeaderMap, StatusCode};
 use std::alloc::Global;
+
+// What is carried: what the fields ask for, the path of the source, and whether a directory stands there.
+#[derive(Drop)]
+struct Carriage<'a> {
+    asked: Asked,
+    path: &'a DavPath,
+    dir: bool,
+}
 
 // The method that moves, or copies.
 fn method_of(moving: bool) -> DavMethod
@@ -45,20 +53,29 @@ fn go<S: GuardedFileSystem<C>, C>(
     alloc: Global,
     fs: &mut S,
     credentials: &C,
-    asked: &Asked,
-    path: &DavPath,
-    dir: bool,
+    carriage: &Carriage<'_>,
     outcome: Outcome,
 ) -> Result<Outcome, DavError>
-    ensures table { Goes S.view S.listings credentials.now asked.now.moving asked.now
-        (record { from = path.now; to = asked.now.to; dir = dir }) outcome fs.old result fs.new }
+    ensures table { Goes S.view S.listings credentials.now carriage.now.asked.moving carriage.now.asked
+        (carried carriage.now) outcome fs.old result fs.new }
     ensures stays { StaysOpen S.view fs.old fs.new }
 {
+    let asked = &carriage.asked;
     if asked.moving {
-        return answer(line_of(fs.rename(path, &asked.to, credentials)), outcome);
+        return answer(
+            line_of(fs.rename(carriage.path, &asked.to, credentials)),
+            outcome,
+        );
     }
-    let all = copy_all(alloc, fs, credentials, asked.alone, path, &asked.to, dir);
-    answer(all, outcome)
+    let copied = Copied {
+        from: carriage.path,
+        to: &asked.to,
+        dir: carriage.dir,
+    };
+    answer(
+        copy_all(alloc, fs, credentials, asked.alone, copied),
+        outcome,
+    )
 }
 
 // What stands at the destination goes, and the source takes its place.
@@ -66,17 +83,15 @@ fn replace<S: GuardedFileSystem<C>, C>(
     alloc: Global,
     fs: &mut S,
     credentials: &C,
-    asked: &Asked,
-    path: &DavPath,
-    dir: bool,
+    carriage: &Carriage<'_>,
     dir_there: bool,
 ) -> Result<Outcome, DavError>
-    ensures table { Replaces S.view S.listings credentials.now asked.now
-        (record { from = path.now; to = asked.now.to; dir = dir }) dir_there fs.old result fs.new }
+    ensures table { Replaces S.view S.listings credentials.now carriage.now.asked (carried carriage.now) dir_there
+        fs.old result fs.new }
     ensures stays { StaysOpen S.view fs.old fs.new }
 {
-    match remove_all(alloc, fs, credentials, &asked.to, dir_there) {
-        Ok(()) => go(alloc, fs, credentials, asked, path, dir, silent(alloc)),
+    match remove_all(alloc, fs, credentials, &carriage.asked.to, dir_there) {
+        Ok(()) => go(alloc, fs, credentials, carriage, silent(alloc)),
         Err(error) => Err(error),
     }
 }
@@ -86,18 +101,16 @@ fn fill<S: GuardedFileSystem<C>, C>(
     alloc: Global,
     fs: &mut S,
     credentials: &C,
-    asked: &Asked,
-    path: &DavPath,
-    dir: bool,
+    carriage: &Carriage<'_>,
     refusal: FsError,
 ) -> Result<Outcome, DavError>
-    ensures table { Next (Arrives S.view S.listings credentials.now asked.now
-        (record { from = path.now; to = asked.now.to; dir = dir }) (Err refusal)) fs.old result fs.new }
+    ensures table { Next (Arrives S.view S.listings credentials.now carriage.now.asked (carried carriage.now)
+        (Err refusal)) fs.old result fs.new }
     ensures stays { StaysOpen S.view fs.old fs.new }
 {
     pass_missing(refusal)?;
     let outcome = created(alloc)?;
-    go(alloc, fs, credentials, asked, path, dir, outcome)
+    go(alloc, fs, credentials, carriage, outcome)
 }
 
 // Looks at the destination, and goes on by what stands there.
@@ -105,22 +118,20 @@ fn arrive<S: GuardedFileSystem<C>, C>(
     alloc: Global,
     fs: &mut S,
     credentials: &C,
-    asked: &Asked,
-    path: &DavPath,
-    dir: bool,
+    carriage: &Carriage<'_>,
 ) -> Result<Outcome, DavError>
-    ensures table { LooksAtLink S.view S.listings credentials.now asked.now.to (Arrives S.view S.listings
-        credentials.now asked.now (record { from = path.now; to = asked.now.to; dir = dir })) fs.old result fs.new }
+    ensures table { LooksAtLink S.view S.listings credentials.now carriage.now.asked.to (Arrives S.view S.listings
+        credentials.now carriage.now.asked (carried carriage.now)) fs.old result fs.new }
     ensures stays { StaysOpen S.view fs.old fs.new }
 {
-    match fs.symlink_metadata(&asked.to, credentials) {
+    match fs.symlink_metadata(&carriage.asked.to, credentials) {
         Ok(meta) => {
-            if !asked.replaces {
+            if !carriage.asked.replaces {
                 return Err(DavError::Status(StatusCode::PRECONDITION_FAILED));
             }
-            replace(alloc, fs, credentials, asked, path, dir, meta.is_dir())
+            replace(alloc, fs, credentials, carriage, meta.is_dir())
         }
-        Err(refusal) => fill(alloc, fs, credentials, asked, path, dir, refusal),
+        Err(refusal) => fill(alloc, fs, credentials, carriage, refusal),
     }
 }
 
@@ -129,57 +140,51 @@ fn arrive_if<S: GuardedFileSystem<C>, C>(
     alloc: Global,
     fs: &mut S,
     credentials: &C,
-    asked: &Asked,
-    path: &DavPath,
-    dir: bool,
+    carriage: &Carriage<'_>,
     may: Result<(), DavError>,
 ) -> Result<Outcome, DavError>
-    ensures table { Next (Unless may (LooksAtLink S.view S.listings credentials.now asked.now.to (Arrives S.view
-        S.listings credentials.now asked.now (record { from = path.now; to = asked.now.to; dir = dir }))))
-        fs.old result fs.new }
+    ensures table { Next (Unless may (LooksAtLink S.view S.listings credentials.now carriage.now.asked.to (Arrives
+        S.view S.listings credentials.now carriage.now.asked (carried carriage.now)))) fs.old result fs.new }
     ensures stays { StaysOpen S.view fs.old fs.new }
 {
     match may {
-        Ok(()) => arrive(alloc, fs, credentials, asked, path, dir),
+        Ok(()) => arrive(alloc, fs, credentials, carriage),
         Err(error) => Err(error),
     }
 }
 
-// Goes on from the source, of which a look told.
+// Goes on from the source, where a directory stands above the destination and then a line lets it.
 fn leave<S: GuardedFileSystem<C>, C>(
     alloc: Global,
     fs: &mut S,
     credentials: &C,
-    asked: &Asked,
-    path: &DavPath,
-    fields: &HeaderMap,
-    meta: &S::Meta,
+    carriage: &Carriage<'_>,
+    may: Result<(), DavError>,
 ) -> Result<Outcome, DavError>
-    ensures table { Next (Leaves S.view S.listings credentials.now path.now fields.now asked.now
-        (Ok (S.Meta.info meta.now))) fs.old result fs.new }
+    ensures table { Next (Below S.view credentials.now carriage.now.asked.to (Unless may (LooksAtLink S.view S.listings
+        credentials.now carriage.now.asked.to (Arrives S.view S.listings credentials.now carriage.now.asked
+        (carried carriage.now))))) fs.old result fs.new }
     ensures stays { StaysOpen S.view fs.old fs.new }
 {
-    let above = asked.to.parent()?;
+    let above = carriage.asked.to.parent()?;
     pass_parent(fs, credentials, &above)?;
-    let may = pass_met(alloc, method_of(asked.moving), fields, Some(meta));
-    arrive_if(alloc, fs, credentials, asked, path, meta.is_dir(), may)
+    arrive_if(alloc, fs, credentials, carriage, may)
 }
 
-// Does what the fields ask for, read under a prefix.
+// Does what the fields ask for, or answers their refusal. The precondition is judged by the first look, but it refuses
+// only once a directory was found above the destination.
 fn carry<S: GuardedFileSystem<C>, C>(
     alloc: Global,
     fs: &mut S,
     credentials: &C,
-    moving: bool,
     path: &DavPath,
     fields: &HeaderMap,
-    prefix: &str,
+    asked: Result<Asked, DavError>,
 ) -> Result<Outcome, DavError>
-    ensures table { Next (CopyMoves S.view S.listings credentials.now moving prefix.now path.now fields.now)
-        fs.old result fs.new }
+    ensures table { Next (Carries S.view S.listings credentials.now path.now fields.now asked) fs.old result fs.new }
     ensures stays { StaysOpen S.view fs.old fs.new }
 {
-    let asked = match asked(alloc, moving, fields, prefix) {
+    let asked = match asked {
         Ok(asked) => asked,
         Err(error) => return Err(error),
     };
@@ -189,7 +194,12 @@ fn carry<S: GuardedFileSystem<C>, C>(
         Err(refusal) => return Err(DavError::from(refusal)),
     };
     match pass_apart(alloc, folds, path, &asked.to) {
-        Ok(()) => leave(alloc, fs, credentials, &asked, path, fields, &meta),
+        Ok(()) => {
+            let may = pass_met(alloc, method_of(asked.moving), fields, Some(&meta));
+            let dir = meta.is_dir();
+            let carriage = Carriage { asked, path, dir };
+            leave(alloc, fs, credentials, &carriage, may)
+        }
         Err(error) => Err(error),
     }
 }
@@ -221,7 +231,8 @@ pub fn copy<S: GuardedFileSystem<C>, C>(
     ensures table { CopiesTo S.view S.listings credentials.now prefix.now path.now fields.now fs.old result fs.new }
     ensures stays { StaysOpen S.view fs.old fs.new }
 {
-    carry(alloc, fs, credentials, false, path, fields, prefix)
+    let said = asked(alloc, false, fields, prefix);
+    carry(alloc, fs, credentials, path, fields, said)
 }
 
 /// Answers a MOVE (RFC 4918, section 9.9) over any store, by a renaming. All else is as for `copy`, save that Depth may
@@ -237,5 +248,6 @@ pub fn move_to<S: GuardedFileSystem<C>, C>(
     ensures table { MovesTo S.view S.listings credentials.now prefix.now path.now fields.now fs.old result fs.new }
     ensures stays { StaysOpen S.view fs.old fs.new }
 {
-    carry(alloc, fs, credentials, true, path, fields, prefix)
+    let said = asked(alloc, true, fields, prefix);
+    carry(alloc, fs, credentials, path, fields, said)
 }

@@ -1,12 +1,13 @@
 -- What stands for what a walk holds: it has one path, at which members are pending, and the ways up to those that are
 -- pending above. The tables speak of whole paths. Private functions alone cite this.
-use Rattle.std.specs.Prelude.{◌≡◌, ◌⊎◌, ◌++◌, ◌<◌, ◌^◌, List, [], ◌∷◌, map, length, Bool, true, Ok, Err}
+use Rattle.std.specs.Prelude.{◌≡◌, ◌⊎◌, ◌++◌, ◌<◌, ◌^◌, ℕ, List, [], ◌∷◌, map, length, Bool, true, Ok, Err}
 use Rattle.dav_core.specs.declared.dav_error.DavError.TheVariants.{NoMemory}
 use Rattle.dav_core.specs.declared.error.FsError.{FsError}
 use Rattle.dav_core.specs.DavPath.{WebPath}
 use Rattle.dav_core.specs.Statuses.{of_fs}
 use Rattle.dav_store.specs.View.{View, Listings}
 use Rattle.dav_walks.specs.declared.child.Child.{Child}
+use Rattle.dav_walks.specs.declared.copying.CopyWalk.{CopyWalk}
 use Rattle.dav_walks.specs.declared.ends.Ends.{Ends}
 use Rattle.dav_walks.specs.declared.member.Member.{Member}
 use Rattle.dav_walks.specs.declared.pending.Pending.{Pending}
@@ -18,6 +19,7 @@ use Rattle.dav_walks.specs.Copying.{Copies, transfer_of}
 use Rattle.dav_walks.specs.Lines.{Line, above}
 use Rattle.dav_walks.specs.Reading.{HasMembers, HasNoMembers, child_named}
 use Rattle.dav_walks.specs.Removing.{Removes}
+use Rattle.dav_walks.specs.Weights.{weight}
 
 abbrev pub member_at : WebPath → Member → Child
 member_at path m = child_named path m.name m.dir
@@ -44,7 +46,14 @@ transfers_at ends [] = []
 transfers_at ends (Below m ∷ works) = transfer_of ends.to (member_at ends.from m) ∷ transfers_at ends works
 transfers_at ends (Up ∷ works) = transfers_at (ends_above ends) works
 
--- the copy of the directory that they stand for
+-- What a walk that copies has left, and how much it weighs.
+abbrev pub transfers_left : CopyWalk → List Transfer
+transfers_left walk = transfers_at walk.ends walk.works.items
+
+abbrev pub weight_left : CopyWalk → ℕ
+weight_left walk = weight (works_at walk.ends.from walk.works.items [])
+
+-- the copy of the directory that both ends stand for
 abbrev pub transfer_dir : Ends → Transfer
 transfer_dir ends = record { from = ends.from; to = ends.to; dir = true }
 

@@ -5,7 +5,7 @@ ghost use Rattle.dav_store.specs.View.{StaysOpen};
 ghost use Rattle.dav_walks.specs.Copying.{Copies};
 ghost use Rattle.dav_walks.specs.Lines.{above};
 ghost use Rattle.dav_walks.specs.Removing.{line_of as the_line_of};
-ghost use Rattle.dav_walks.specs.Walking.{CopiesOn, ends_above, transfer_dir, transfers_at, works_at};
+ghost use Rattle.dav_walks.specs.Walking.{CopiesOn, ends_above, transfer_dir, transfers_at, transfers_left, weight_left, works_at};
 ghost use Rattle.dav_walks.specs.Weights.{weight};
 ghost use Rattle.dav_walks.specs.declared.pending.Pending.TheVariants.{Below};
 ghost use Rattle.dav_walks.specs.declared.work.Work.TheVariants.{Whole};
@@ -19,6 +19,21 @@ use dav_io::NoMemory;
 use dav_store::GuardedFileSystem;
 use std::alloc::Global;
 use std::collections::VecDeque;
+
+/// What is copied: what stands at a path, which may be a directory, to another path.
+#[derive(Clone, Copy)]
+pub struct Copied<'a> {
+    pub from: &'a DavPath,
+    pub to: &'a DavPath,
+    pub dir: bool,
+}
+
+// What a copy of a directory is at: both paths, and what is pending there.
+#[derive(Drop)]
+struct CopyWalk {
+    ends: Ends,
+    works: VecDeque<Pending>,
+}
 
 // Copies what stands at a path and is no directory.
 fn copy_file<S: GuardedFileSystem<C>, C>(
@@ -40,27 +55,26 @@ fn copy_dir<S: GuardedFileSystem<C>, C>(
     fs: &mut S,
     credentials: &C,
     alone: bool,
-    ends: &Ends,
-    works: &mut VecDeque<Pending>,
+    walk: &mut CopyWalk,
 ) -> Result<(), DavError>
-    ensures copies { CopiesOn S.view S.listings credentials.now alone (transfer_dir ends.now ∷ transfers_at
-        (ends_above ends.now) works.old.items) fs.old result fs.new (transfers_at ends.now works.new.items) }
-    ensures lighter { result ≡ Ok tt → weight (works_at ends.now.from works.new.items [])
-        < weight (Whole ends.now.from true ∷ works_at (above ends.now.from) works.old.items []) }
+    ensures copies { CopiesOn S.view S.listings credentials.now alone (transfer_dir walk.old.ends ∷ transfers_at
+        (ends_above walk.old.ends) walk.old.works.items) fs.old result fs.new (transfers_left walk.new) }
+    ensures lighter { result ≡ Ok tt → weight_left walk.new < weight (Whole walk.old.ends.from true
+        ∷ works_at (above walk.old.ends.from) walk.old.works.items []) }
     ensures stays { StaysOpen S.view fs.old fs.new }
 {
-    pass_shallow(&ends.from)?;
-    let Ok(()) = works.push_front(Pending::Up) else {
+    pass_shallow(&walk.ends.from)?;
+    let Ok(()) = walk.works.push_front(Pending::Up) else {
         return Err(DavError::NoMemory);
     };
-    match fs.create_dir(&ends.to, credentials) {
+    match fs.create_dir(&walk.ends.to, credentials) {
         Ok(()) => {}
         Err(refusal) => return Err(DavError::from(refusal)),
     }
     if alone {
         return Ok(());
     }
-    read_pending(alloc, fs, credentials, &ends.from, works)
+    read_pending(alloc, fs, credentials, &walk.ends.from, &mut walk.works)
 }
 
 // Goes down to a member, and copies it: a file, or a directory, whose members come before what is pending.
@@ -69,49 +83,45 @@ fn copy_member<S: GuardedFileSystem<C>, C>(
     fs: &mut S,
     credentials: &C,
     alone: bool,
-    ends: &mut Ends,
+    walk: &mut CopyWalk,
     member: &Member,
-    works: &mut VecDeque<Pending>,
 ) -> Result<(), DavError>
-    ensures copies { CopiesOn S.view S.listings credentials.now alone (transfers_at
-        ends.old (Below member.now ∷ works.old.items)) fs.old result fs.new (transfers_at ends.new works.new.items) }
-    ensures lighter { result ≡ Ok tt → weight (works_at ends.new.from works.new.items [])
-        < weight (works_at ends.old.from (Below member.now ∷ works.old.items) []) }
+    ensures copies { CopiesOn S.view S.listings credentials.now alone (transfers_at walk.old.ends
+        (Below member.now ∷ walk.old.works.items)) fs.old result fs.new (transfers_left walk.new) }
+    ensures lighter { result ≡ Ok tt → weight_left walk.new
+        < weight (works_at walk.old.ends.from (Below member.now ∷ walk.old.works.items) []) }
     ensures stays { StaysOpen S.view fs.old fs.new }
 {
-    let Ok(()) = ends.down(member) else {
+    let Ok(()) = walk.ends.down(member) else {
         return Err(DavError::NoMemory);
     };
     if member.dir {
-        return copy_dir(alloc, fs, credentials, alone, ends, works);
+        return copy_dir(alloc, fs, credentials, alone, walk);
     }
-    let copied = copy_file(fs, credentials, &ends.from, &ends.to);
-    ends.up();
+    let copied = copy_file(fs, credentials, &walk.ends.from, &walk.ends.to);
+    walk.ends.up();
     copied
 }
 
-// Does the first of what is pending.
+// Does the first of what is pending, which was taken off before.
 fn copy_one<S: GuardedFileSystem<C>, C>(
     alloc: Global,
     fs: &mut S,
     credentials: &C,
     alone: bool,
-    ends: &mut Ends,
+    walk: &mut CopyWalk,
     work: Pending,
-    works: &mut VecDeque<Pending>,
 ) -> Result<(), DavError>
-    ensures copies { CopiesOn S.view S.listings credentials.now alone
-        (transfers_at ends.old (work ∷ works.old.items)) fs.old result fs.new (transfers_at ends.new works.new.items) }
-    ensures lighter { result ≡ Ok tt → weight (works_at ends.new.from works.new.items [])
-        < weight (works_at ends.old.from (work ∷ works.old.items) []) }
+    ensures copies { CopiesOn S.view S.listings credentials.now alone (transfers_at walk.old.ends
+        (work ∷ walk.old.works.items)) fs.old result fs.new (transfers_left walk.new) }
+    ensures lighter { result ≡ Ok tt → weight_left walk.new
+        < weight (works_at walk.old.ends.from (work ∷ walk.old.works.items) []) }
     ensures stays { StaysOpen S.view fs.old fs.new }
 {
     match work {
-        Pending::Below(member) => {
-            copy_member(alloc, fs, credentials, alone, ends, &member, works)
-        }
+        Pending::Below(member) => copy_member(alloc, fs, credentials, alone, walk, &member),
         Pending::Up => {
-            ends.up();
+            walk.ends.up();
             Ok(())
         }
     }
@@ -123,23 +133,18 @@ fn copy_pending<S: GuardedFileSystem<C>, C>(
     fs: &mut S,
     credentials: &C,
     alone: bool,
-    ends: Ends,
-    works: VecDeque<Pending>,
+    walk: CopyWalk,
 ) -> Result<(), DavError>
-    ensures copies { Copies S.view S.listings credentials.now alone
-        (transfers_at ends works.items) fs.old result fs.new }
+    ensures copies { Copies S.view S.listings credentials.now alone (transfers_left walk) fs.old result fs.new }
     ensures stays { StaysOpen S.view fs.old fs.new }
 {
-    let mut ends = ends;
-    let mut works = works;
+    let mut walk = walk;
     'works: loop {
-        match works.pop_front() {
-            Some(work) => {
-                match copy_one(alloc, fs, credentials, alone, &mut ends, work, &mut works) {
-                    Ok(()) => {}
-                    Err(error) => return Err(error),
-                }
-            }
+        match walk.works.pop_front() {
+            Some(work) => match copy_one(alloc, fs, credentials, alone, &mut walk, work) {
+                Ok(()) => {}
+                Err(error) => return Err(error),
+            },
             None => return Ok(()),
         }
     }
@@ -156,9 +161,12 @@ fn copy_tree<S: GuardedFileSystem<C>, C>(
     ensures copies { Copies S.view S.listings credentials.now alone (transfer_dir ends ∷ []) fs.old result fs.new }
     ensures stays { StaysOpen S.view fs.old fs.new }
 {
-    let mut works = VecDeque::new(alloc);
-    match copy_dir(alloc, fs, credentials, alone, &ends, &mut works) {
-        Ok(()) => copy_pending(alloc, fs, credentials, alone, ends, works),
+    let mut walk = CopyWalk {
+        ends,
+        works: VecDeque::new(alloc),
+    };
+    match copy_dir(alloc, fs, credentials, alone, &mut walk) {
+        Ok(()) => copy_pending(alloc, fs, credentials, alone, walk),
         Err(error) => Err(error),
     }
 }
@@ -173,7 +181,7 @@ fn ends_of(from: &DavPath, to: &DavPath) -> Result<Ends, NoMemory>
     })
 }
 
-/// Copies what stands at a path, which may be a directory, to another path. A directory is made before its members are
+/// Copies what stands at a path to another path. A directory is made before its members are
 /// copied, in the order of their names by bytes, each with its own members; alone, it goes without them. Its listing is read
 /// to its end and ended before its first member is copied.
 ///
@@ -184,18 +192,16 @@ pub fn copy_all<S: GuardedFileSystem<C>, C>(
     fs: &mut S,
     credentials: &C,
     alone: bool,
-    from: &DavPath,
-    to: &DavPath,
-    dir: bool,
+    copied: Copied<'_>,
 ) -> Result<(), DavError>
     ensures copies { Copies S.view S.listings credentials.now alone
-        (record { from = from.now; to = to.now; dir = dir } ∷ []) fs.old result fs.new }
+        (record { from = copied.from.now; to = copied.to.now; dir = copied.dir } ∷ []) fs.old result fs.new }
     ensures stays { StaysOpen S.view fs.old fs.new }
 {
-    if !dir {
-        return copy_file(fs, credentials, from, to);
+    if !copied.dir {
+        return copy_file(fs, credentials, copied.from, copied.to);
     }
-    match ends_of(from, to) {
+    match ends_of(copied.from, copied.to) {
         Ok(ends) => copy_tree(alloc, fs, credentials, alone, ends),
         Err(_) => Err(DavError::NoMemory),
     }

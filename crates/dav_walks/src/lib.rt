@@ -14,7 +14,7 @@ mod removing;
 mod transfer;
 mod work;
 
-pub use copying::copy_all;
+pub use copying::{Copied, copy_all};
 pub use member::Member;
 pub use name::Name;
 pub use pouring::{file_write, pour};

@@ -1,6 +1,6 @@
 -- What a walk that copies does, step by step, is what the table of COPY says of whole paths.
 -- Headlines: `pending_goes` and `file_all`.
-use Rattle.std.proofs.Common.{◌≡◌, ◌<◌, ◌++◌, List, [], ◌∷◌, map, length, Bool, true, false, Result, Ok, Err, refl, sym, ap, subst, ◌∙◌, arith}
+use Rattle.std.proofs.Common.{◌≡◌, ◌<◌, ◌++◌, ℕ, List, [], ◌∷◌, map, length, Bool, true, false, Result, Ok, Err, refl, sym, ap, subst, ◌∙◌, arith}
 use Rattle.std.proofs.lemmas.List.{length-map}
 use Rattle.dav_core.specs.declared.dav_error.DavError.{DavError}
 use Rattle.dav_core.specs.declared.error.FsError.{FsError}
@@ -90,14 +90,12 @@ module _ {S C F L E : Type 0} (view : View S C F) (lists : Listings S C L E) (c 
       (subst (λ b. Enters view lists c alone b (transfer_dir ends) (transfers_at (ends_above ends) works) m r t (transfers_at ends new)) (sym lone) (into ends works new m t r at))
 
   -- A member that is a directory was copied so.
-  pub member_done : (ends below : Ends) (m : Member) (works new : List Pending) (s t : S) (r : Line) → m.dir ≡ true → below ≡ ends_below ends m
-      → CopiesOn view lists c alone (transfer_dir below ∷ transfers_at (ends_above below) works) s r t (transfers_at below new)
-      → CopiesOn view lists c alone (transfers_at ends (Below m ∷ works)) s r t (transfers_at below new)
-  member_done ends below m works new s t r dir down did =
-      let here = subst (λ (e : Ends). CopiesOn view lists c alone (transfer_dir e ∷ transfers_at (ends_above e) works) s r t (transfers_at below new)) down did in
-      let at = subst (λ xs. CopiesOn view lists c alone (transfer_dir (ends_below ends m) ∷ xs) s r t (transfers_at below new)) (same_transfers ends m works) here in
-      subst (λ b. CopiesOn view lists c alone (record { from = (member_at ends.from m).path; to = (member_at ends.to m).path; dir = b } ∷ transfers_at ends works) s r t (transfers_at below new))
-      (sym dir) at
+  pub member_done : (ends below : Ends) (m : Member) (works : List Pending) (rest : List Transfer) (s t : S) (r : Line) → m.dir ≡ true → below ≡ ends_below ends m
+      → CopiesOn view lists c alone (transfer_dir below ∷ transfers_at (ends_above below) works) s r t rest → CopiesOn view lists c alone (transfers_at ends (Below m ∷ works)) s r t rest
+  member_done ends below m works rest s t r dir down did =
+      let here = subst (λ (e : Ends). CopiesOn view lists c alone (transfer_dir e ∷ transfers_at (ends_above e) works) s r t rest) down did in
+      let at = subst (λ xs. CopiesOn view lists c alone (transfer_dir (ends_below ends m) ∷ xs) s r t rest) (same_transfers ends m works) here in
+      subst (λ b. CopiesOn view lists c alone (record { from = (member_at ends.from m).path; to = (member_at ends.to m).path; dir = b } ∷ transfers_at ends works) s r t rest) (sym dir) at
 
   -- ---- one after the other
 
@@ -110,10 +108,9 @@ module _ {S C F L E : Type 0} (view : View S C F) (lists : Listings S C L E) (c 
       ended (Err e) on = on
 
   -- the first that is pending was done
-  pub pending_goes : (ends after : Ends) (all works rest : List Pending) (work : Pending) (s m t : S) (r : Line) → all ≡ work ∷ works
-      → CopiesOn view lists c alone (transfers_at ends (work ∷ works)) s (Ok tt) m (transfers_at after rest) → Copies view lists c alone (transfers_at after rest) m r t
-      → Copies view lists c alone (transfers_at ends all) s r t
-  pending_goes ends after all works rest work s m t r same one h = subst (λ ws. Copies view lists c alone (transfers_at ends ws) s r t) (sym same) (one r t h)
+  pub pending_goes : (ends : Ends) (all works : List Pending) (work : Pending) (rest : List Transfer) (s m t : S) (r : Line) → all ≡ work ∷ works
+      → CopiesOn view lists c alone (transfers_at ends (work ∷ works)) s (Ok tt) m rest → Copies view lists c alone rest m r t → Copies view lists c alone (transfers_at ends all) s r t
+  pending_goes ends all works work rest s m t r same one h = subst (λ ws. Copies view lists c alone (transfers_at ends ws) s r t) (sym same) (one r t h)
 
   -- the first that is pending was refused
   pub pending_stops : (ends : Ends) (all works : List Pending) (work : Pending) (rest : List Transfer) (s t : S) (e : DavError) → all ≡ work ∷ works
@@ -150,9 +147,9 @@ module _ {S C F L E : Type 0} (view : View S C F) (lists : Listings S C L E) (c 
       members_lighter view lists s t c path (members_at path members) (works_at (above path) works []) (works_at (above path) works []) (works_at path new []) has near
       (omega (arith, few, count)) refl (ap (λ ws. works_at path ws []) (is ∙ ap (λ ws. map Below members ++ ws) put) ∙ works_joined path members (Up ∷ works) [])
 
-  pub member_lighter : (ends below : Ends) (m : Member) (works new : List Pending) → m.dir ≡ true → below ≡ ends_below ends m
-      → weight (works_at below.from new []) < weight (Whole below.from true ∷ works_at (above below.from) works []) → weight (works_at below.from new []) < weight (works_at ends.from (Below m ∷ works) [])
-  member_lighter ends below m works new dir down less =
+  pub member_lighter : (ends below : Ends) (m : Member) (works : List Pending) (left : ℕ) → m.dir ≡ true → below ≡ ends_below ends m
+      → left < weight (Whole below.from true ∷ works_at (above below.from) works []) → left < weight (works_at ends.from (Below m ∷ works) [])
+  member_lighter ends below m works left dir down less =
       let here : weight (Whole below.from true ∷ works_at (above below.from) works []) ≡ weight (Whole (member_at ends.from m).path true ∷ works_at (above (member_at ends.from m).path) works []) =
       ap (λ (e : Ends). weight (Whole e.from true ∷ works_at (above e.from) works [])) down in
       let back = same_weight ends.from m works in
