@@ -195,7 +195,8 @@ pub fn copy_all<S: GuardedFileSystem<C>, C>(
     copied: Copied<'_>,
 ) -> Result<(), DavError>
     ensures copies { Copies S.view S.listings credentials.now alone
-        (record { from = copied.from.now; to = copied.to.now; dir = copied.dir } ∷ []) fs.old result fs.new }
+        (record { from = copied.entry.from.now; to = copied.entry.to.now; dir = copied.entry.dir } ∷ [])
+        fs.old result fs.new }
     ensures stays { StaysOpen S.view fs.old fs.new }
 {
     if !copied.dir {
