@@ -1,3 +1,4 @@
+use Rattle.std.proofs.Common.{false}
 use Rattle.dav_methods.proofs.tables.BehindLooks.{copy_moves}
 use Rattle.dav_methods.proofs.carrying.copy.Goals as goal
 

@@ -1,3 +1,4 @@
+use Rattle.std.proofs.Common.{true}
 use Rattle.dav_methods.proofs.tables.BehindLooks.{copy_moves}
 use Rattle.dav_methods.proofs.carrying.move_to.Goals as goal
 
