@@ -74,8 +74,8 @@ fn tell(rt: &HostRuntime, root: &str, how: &str, part: &str, line: &mut String) 
     let Ok(path) = DavPath::new(alloc, word) else {
         bail!("no path");
     };
-    let disk = HostDisk::new(alloc, rt, root)?;
     separate(line)?;
+    let disk = HostDisk::new(alloc, rt, root)?;
     match call_over(alloc, disk, how, kind, &path) {
         Ok(()) => Ok(line.push_str("done")?),
         Err(error) => Ok(write!(line, "{error}")?),
