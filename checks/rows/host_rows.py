@@ -3,8 +3,10 @@
 What the machine alone decides is beyond the model: symbolic links, options that it doesn't take together, places that
 it doesn't take, and a disk whose folder isn't there.
 """
-from calls import DISK_TEXTS
-from disk import SECOND, Disk, DiskError, Options
+from calls import DISK_TEXTS, told_or_refused
+from disk import PUTTING, SECOND, Disk, DiskError, Options
+from model import path_of
+from store import Store
 from texts import Beyond, number, print_wanted, word
 
 REASONS = "symbolic links, a folder that isn't there, and places and options that the machine refuses"
@@ -151,6 +153,28 @@ def on_disk(machine, root, parts):
     return f"{line}failed {below.faults}"
 
 
+def call_of_store(store, kind, text):
+    if kind == "put":
+        store.open(path_of(text), PUTTING)
+    elif kind == "make":
+        store.create_dir(path_of(text))
+    else:
+        store.create_defaults()
+    return "done"
+
+
+def by_stores(machine, root, text):
+    """What local stores answer, each to one call. What they make is its owner's alone, unless it is to be public."""
+    how, *parts = [part.strip() for part in text.split("|")]
+    below, answers = Below(machine, names_of(root)), []
+    for kind, _, path in [part.partition(" ") for part in parts]:
+        before = set(machine.disk.tree)
+        call = lambda disk, _: call_of_store(Store(disk, folds="f" in how), kind, path)
+        answers.append(told_or_refused(below.on, call, ()))
+        machine.alone |= set() if "p" in how else set(machine.disk.tree) - before
+    return ", ".join(answers)
+
+
 def taken(machine, path):
     """What two reads of eight bytes give."""
     file = machine.disk.tree[names_of(path)]
@@ -175,7 +199,8 @@ def answer(machine, row):
         return f"took {len(text)}"
     else:
         calls = {"disk": lambda: on_disk(machine, path, text), "take": lambda: taken(machine, path),
-                 "stuck": lambda: "failed", "alone": lambda: "alone" if names_of(path) in machine.alone else "open",
+                 "stuck": lambda: "failed", "store": lambda: by_stores(machine, path, text),
+                 "alone": lambda: ", ".join("alone" if names_of(it) in machine.alone else "open" for it in row.split(" ")[1:]),
                  "clock": lambda: "late true, goes on true"}
         return calls[kind]() if kind in calls else row
     return "made"

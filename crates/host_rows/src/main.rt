@@ -9,7 +9,8 @@
 //!     put PATH TEXT           what a stream into a new file took of a text
 //!     stuck PATH TEXT         the same of a file that is opened for reading alone
 //!     date PATH SECS NANOS    sets the time of a file or a folder: seconds from 1970 on, and nanoseconds
-//!     alone PATH              whether what stands at a path is for its owner alone
+//!     store ROOT HOW | CALL.. calls of local stores below a folder, each of a store of its own
+//!     alone PATH..            whether what stands at each path is for its owner alone
 //!     clock                   whether the clock shows a moment behind the year 2020, and no earlier one afterwards
 //!     #                       is written as it stands
 //!
@@ -25,16 +26,21 @@
 //! are those that were kept, `number HOW PATH` tells it of the number; `since HOW PATH` whether the time isn't earlier than
 //! the one that was kept, and not to come; `when HOW PATH` tells the time. What each call answers stands before a `|`, and behind them
 //! how many calls met a fault. A name `COUNT*NAME` is so many copies of a name.
+//!
+//! What a local store makes is public where HOW has a `p`, and its names fold at `f`; `-` is neither. Its calls are `put PATH`,
+//! which opens a file as a PUT does and closes it, `make PATH`, which makes a folder, and `defaults`, which makes the two
+//! folders that a store has from its start. A path is percent-encoded, as that of a request.
 #![tactic(auto)]
 
 mod calls;
 mod changes;
 mod looks;
+mod stores;
 mod streams;
 
 use anyhow::Result;
 use std::alloc::Global;
-use std::os::unix::fs::{MetadataExt, symlink};
+use std::os::unix::fs::symlink;
 use std::{fs, io};
 
 /// A text of its own.
@@ -69,10 +75,8 @@ fn answer(rt: &HostRuntime, row: &str) -> Result<String> {
             streams::date(rt, path, text)?;
             said(alloc, "made")
         }
-        "alone" => {
-            let is_alone = fs::metadata(rt, path)?.mode() & 0o077 == 0;
-            said(alloc, if is_alone { "alone" } else { "open" })
-        }
+        "store" => stores::stores(rt, path, text),
+        "alone" => stores::alone(rt, row.split_once(' ').unwrap_or((row, "")).1),
         "clock" => streams::clock(rt),
         _ => said(alloc, row),
     }
