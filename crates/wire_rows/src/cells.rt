@@ -45,13 +45,31 @@ fn field_of(alloc: Global, cell: &str) -> Result<Field, NoMemory> {
     Ok(Field { name, value })
 }
 
+fn add_field(alloc: Global, fields: &mut Vec<Field>, cell: &str) -> Result<(), NoMemory> {
+    let field = field_of(alloc, cell)?;
+    fields.push(field)?;
+    Ok(())
+}
+
+fn add_fields(
+    alloc: Global,
+    fields: &mut Vec<Field>,
+    row: &str,
+    before: usize,
+) -> Result<(), NoMemory> {
+    for cell in row.split(' ').skip(before) {
+        add_field(alloc, fields, cell)?;
+    }
+    Ok(())
+}
+
 /// The fields of a row, behind so many cells.
 pub fn fields_of(alloc: Global, row: &str, before: usize) -> Result<Vec<Field>, NoMemory> {
     let mut fields = Vec::new(alloc);
-    for cell in row.split(' ').skip(before) {
-        fields.push(field_of(alloc, cell)?)?;
+    match add_fields(alloc, &mut fields, row, before) {
+        Ok(()) => Ok(fields),
+        Err(error) => Err(error),
     }
-    Ok(fields)
 }
 
 /// Adds bytes as a cell spells them.

@@ -63,6 +63,45 @@ fn next_body(
     }
 }
 
+// Shows the next message, and tells whether more may follow.
+fn show_next(
+    alloc: Global,
+    line: &mut Line,
+    input: &mut Input,
+    source: &mut MemSource,
+    output: &mut Output,
+    sink: &mut MemSink,
+    request: &mut Request<Octets>,
+) -> bool {
+    match next_body(alloc, line, input, source, output, sink, request) {
+        Behind::Body(body) => {
+            show_ends(line, body.as_slice());
+            line.add("; ");
+            true
+        }
+        Behind::Over(word) => {
+            line.add(word);
+            false
+        }
+    }
+}
+
+fn show_all(
+    alloc: Global,
+    line: &mut Line,
+    input: &mut Input,
+    source: &mut MemSource,
+    output: &mut Output,
+    sink: &mut MemSink,
+    request: &mut Request<Octets>,
+) {
+    for _ in 0..99 {
+        if !show_next(alloc, line, input, source, output, sink, request) {
+            return;
+        }
+    }
+}
+
 // The messages of a source, and how they end.
 fn show_messages(
     alloc: Global,
@@ -73,18 +112,7 @@ fn show_messages(
     sink: &mut MemSink,
 ) {
     let mut request = Request::new(alloc, Octets::empty(alloc));
-    for _ in 0..99 {
-        match next_body(alloc, line, input, source, output, sink, &mut request) {
-            Behind::Body(body) => {
-                show_ends(line, body.as_slice());
-                line.add("; ");
-            }
-            Behind::Over(word) => {
-                line.add(word);
-                return;
-            }
-        }
-    }
+    show_all(alloc, line, input, source, output, sink, &mut request);
 }
 
 fn messages_by(

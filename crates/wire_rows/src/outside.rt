@@ -20,31 +20,43 @@ pub fn numbers(alloc: Global, cell: &str) -> Result<(usize, Vec<u64>), NoMemory>
     Ok((most, calls))
 }
 
-// What eight calls of a source give, each into four bytes.
+// What a call of a source gives into four bytes.
+fn take<S: Source>(line: &mut Line, source: &mut S) {
+    let mut into = [b'-'; 4];
+    match source.take(&mut into) {
+        Ok(count) => {
+            line.add(" ");
+            show(line, into.get(..count).unwrap_or(b"?"));
+        }
+        Err(Failed) => line.add(" failed"),
+    }
+    line.add(".");
+}
+
+// What eight calls of a source give.
 fn taken<S: Source>(line: &mut Line, source: &mut S) {
     for _ in 0..8u8 {
-        let mut into = [b'-'; 4];
-        match source.take(&mut into) {
-            Ok(count) => {
-                line.add(" ");
-                show(line, into.get(..count).unwrap_or(b"?"));
-            }
-            Err(Failed) => line.add(" failed"),
-        }
-        line.add(".");
+        take(line, source);
+    }
+}
+
+fn give_surely(line: &mut Line, bytes: Octets) {
+    let mut sure = SureSource::new(bytes);
+    let mut lent = &mut sure;
+    taken(line, &mut lent);
+}
+
+fn give_most(alloc: Global, line: &mut Line, cell: &str, bytes: Octets) {
+    match numbers(alloc, cell) {
+        Ok((most, calls)) => taken(line, &mut MemSource::new(bytes, most.max(1), calls)),
+        Err(_) => line.refuse(),
     }
 }
 
 fn give(alloc: Global, line: &mut Line, cell: &str, bytes: Octets) {
-    if cell == "sure" {
-        let mut sure = SureSource::new(bytes);
-        let mut lent = &mut sure;
-        taken(line, &mut lent);
-        return;
-    }
-    match numbers(alloc, cell) {
-        Ok((most, calls)) => taken(line, &mut MemSource::new(bytes, most.max(1), calls)),
-        Err(_) => line.refuse(),
+    match cell {
+        "sure" => give_surely(line, bytes),
+        _ => give_most(alloc, line, cell, bytes),
     }
 }
 
@@ -57,14 +69,19 @@ fn source(alloc: Global, line: &mut Line, row: &str) {
     }
 }
 
-// What six puts of `abc` answer.
+// What a put of `abc` answers.
+fn put_once<K: Sink>(line: &mut Line, sink: &mut K) {
+    match sink.put(b"abc") {
+        Ok(count) => line.add_number(" ", count as u64),
+        Err(Failed) => line.add(" failed"),
+    }
+}
+
+// What six puts answer.
 fn put<K: Sink>(line: &mut Line, sink: &mut K) {
     line.add("takes");
     for _ in 0..6u8 {
-        match sink.put(b"abc") {
-            Ok(count) => line.add_number(" ", count as u64),
-            Err(Failed) => line.add(" failed"),
-        }
+        put_once(line, sink);
     }
     line.add(" has ");
 }
@@ -73,6 +90,11 @@ fn put_surely(line: &mut Line, sure: &mut SureSink) {
     let mut lent = &mut *sure;
     put(line, &mut lent);
     show(line, sure.written());
+}
+
+fn put_most(line: &mut Line, sink: &mut MemSink) {
+    put(line, sink);
+    show(line, sink.written());
 }
 
 fn take_surely(alloc: Global, line: &mut Line, room: usize) {
@@ -87,19 +109,19 @@ fn sink_of(alloc: Global, cell: &str, room: usize) -> Result<MemSink, NoMemory> 
     MemSink::new(alloc, room, most.max(1), calls)
 }
 
+fn take_most(alloc: Global, line: &mut Line, cell: &str, room: usize) {
+    match sink_of(alloc, cell, room) {
+        Ok(mut sink) => put_most(line, &mut sink),
+        Err(_) => line.refuse(),
+    }
+}
+
 // What a sink takes with so much room: MOST bytes a call, and the calls of the numbers fail. One without MOST is sure.
 fn sink(alloc: Global, line: &mut Line, row: &str) {
     let room = word(row, 2).parse::<usize>().unwrap_or(0);
-    if word(row, 1) == "sure" {
-        take_surely(alloc, line, room);
-        return;
-    }
-    match sink_of(alloc, word(row, 1), room) {
-        Ok(mut sink) => {
-            put(line, &mut sink);
-            show(line, sink.written());
-        }
-        Err(_) => line.refuse(),
+    match word(row, 1) {
+        "sure" => take_surely(alloc, line, room),
+        cell => take_most(alloc, line, cell, room),
     }
 }
 

@@ -101,18 +101,29 @@ fn show_request(line: &mut Line, request: &Request<Octets>) {
     line.add("; ");
 }
 
-// The requests of a source, and how they end.
-fn show_requests(alloc: Global, line: &mut Line, input: &mut Input, source: &mut MemSource) {
-    let mut request = Request::new(alloc, Octets::empty(alloc));
+// Reads the requests of a source into one, and shows each, and how they end.
+fn show_all(
+    alloc: Global,
+    line: &mut Line,
+    input: &mut Input,
+    source: &mut MemSource,
+    request: &mut Request<Octets>,
+) {
     for _ in 0..99 {
-        match next(alloc, input, source, &mut request) {
-            Seen::Request => show_request(line, &request),
+        match next(alloc, input, source, request) {
+            Seen::Request => show_request(line, request),
             Seen::Over(word) => {
                 line.add(word);
                 return;
             }
         }
     }
+}
+
+// The requests of a source, and how they end.
+fn show_requests(alloc: Global, line: &mut Line, input: &mut Input, source: &mut MemSource) {
+    let mut request = Request::new(alloc, Octets::empty(alloc));
+    show_all(alloc, line, input, source, &mut request);
 }
 
 fn requests_of(alloc: Global, line: &mut Line, source: &mut MemSource) {

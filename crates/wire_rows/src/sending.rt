@@ -146,6 +146,32 @@ fn ask(
     }
 }
 
+fn ask_each(
+    alloc: Global,
+    line: &mut Line,
+    input: &mut Input,
+    source: &mut MemSource,
+    output: &mut Output,
+    sink: &mut MemSink,
+    request: &mut Request<Octets>,
+) {
+    for _ in 0..3u8 {
+        ask(alloc, line, input, source, output, sink, request);
+    }
+}
+
+fn ask_into(
+    alloc: Global,
+    line: &mut Line,
+    input: &mut Input,
+    source: &mut MemSource,
+    output: &mut Output,
+    sink: &mut MemSink,
+) {
+    let mut request = Request::new(alloc, Octets::empty(alloc));
+    ask_each(alloc, line, input, source, output, sink, &mut request);
+}
+
 fn ask_by(
     alloc: Global,
     line: &mut Line,
@@ -154,12 +180,7 @@ fn ask_by(
     sink: &mut MemSink,
 ) {
     match Input::new(alloc) {
-        Ok(mut input) => {
-            let mut request = Request::new(alloc, Octets::empty(alloc));
-            for _ in 0..3u8 {
-                ask(alloc, line, &mut input, source, output, sink, &mut request);
-            }
-        }
+        Ok(mut input) => ask_into(alloc, line, &mut input, source, output, sink),
         Err(_) => line.refuse(),
     }
 }
