@@ -25,10 +25,9 @@ use crate::scene::moment_of;
 use dav_cache::{Owned, Remember};
 use dav_core::{DavMetaData, DavPath, FsError, FsPath, Kind, Member, OpenOptions};
 use dav_disk::MemDisk;
-use dav_io::Moment;
 use dav_local::{LocalFs, LocalFsMetaData};
 use dav_rows::{Line, word};
-use dav_store::{DavFile, DavFileSystem, GuardedFileSystem, file_close, file_read, read_members};
+use dav_store::{DavFile, DavFileSystem, GuardedFileSystem, read_members};
 use std::alloc::Global;
 
 type Store = LocalFs<MemDisk, Owned>;
@@ -77,15 +76,17 @@ fn tell_path(line: &mut Line, path: &FsPath) {
     }
 }
 
-fn tell_members(line: &mut Line, answer: Result<Vec<Member>, FsError>) {
-    match answer {
-        Ok(members) => {
-            line.add_number("members ", members.len() as u64);
-            for member in members.as_slice() {
-                line.tell(", ", member.name.as_str());
-                line.tell(" ", kind_word(member.kind));
-            }
-        }
+fn tell_members(line: &mut Line, members: &[Member]) {
+    line.add_number("members ", members.len() as u64);
+    for member in members {
+        line.tell(", ", member.name.as_str());
+        line.tell(" ", kind_word(member.kind));
+    }
+}
+
+fn list(alloc: Global, line: &mut Line, store: &mut Store, path: &DavPath) {
+    match read_members(alloc, store, path, &()) {
+        Ok(members) => tell_members(line, members.as_slice()),
         Err(error) => line.add_value(&error),
     }
 }
@@ -104,8 +105,9 @@ fn read(line: &mut Line, store: &mut Store, path: &DavPath) {
     match GuardedFileSystem::open(store, path, OpenOptions::read(), &()) {
         Ok(mut file) => {
             let mut into = [0u8; MOST_BYTES];
-            let read = file_read::<Store, ()>(store, &mut file, &mut into);
-            file_close::<Store, ()>(store, file);
+            let disk = DavFileSystem::disk(store);
+            let read = file.read_into(disk, &mut into);
+            file.close(disk);
             tell_bytes(line, read, &into);
         }
         Err(error) => line.add_value(&error),
@@ -160,6 +162,11 @@ fn change(line: &mut Line, store: &mut Store, kind: &str, path: &DavPath, to: &D
     }
 }
 
+fn tell_rules(line: &mut Line, store: &Store, path: &DavPath) {
+    line.add_whether("empty ", store.is_virtual(path));
+    line.add_whether(", forbidden ", store.is_forbidden(path));
+}
+
 fn third(part: &str) -> &str {
     part.split(' ').nth(2).unwrap_or("/")
 }
@@ -178,13 +185,10 @@ fn call_at(alloc: Global, line: &mut Line, store: &mut Store, path: &DavPath, pa
         "where" => find(line, store, path),
         "read" => read(line, store, path),
         "write" => write(line, store, path, third(part)),
-        "list" => tell_members(line, read_members(alloc, store, path, &())),
+        "list" => list(alloc, line, store, path),
         "front" => front(line, store, path, part),
         "while" => list_while(alloc, line, store, path, part),
-        "rules" => {
-            line.add_whether("empty ", store.is_virtual(path));
-            line.add_whether(", forbidden ", store.is_forbidden(path));
-        }
+        "rules" => tell_rules(line, store, path),
         _ => change_at(alloc, line, store, path, part),
     }
 }
@@ -201,25 +205,35 @@ fn tell_kept(line: &mut Line, memory: &Owned) {
     line.add_number(" and ", memory.dots().len() as u64);
 }
 
-// Sets the moment, or forgets what is too old then.
-fn pass(line: &mut Line, store: &mut Store, kind: &str, now: Moment) {
-    match kind {
-        "now" => DavFileSystem::set_now(store, now),
-        _ => store.memory().purge(now),
-    }
+fn set_now(line: &mut Line, store: &mut Store, word: &str) {
+    let now = moment_of(line, word);
+    DavFileSystem::set_now(store, now);
     line.add("done");
+}
+
+// Forgets what is too old at a moment.
+fn purge(line: &mut Line, memory: &mut Owned, word: &str) {
+    let now = moment_of(line, word);
+    memory.purge(now);
+    line.add("done");
+}
+
+fn tell_asked(line: &mut Line, disk: &MemDisk) {
+    line.add_number("asked ", disk.asked());
+}
+
+fn create_defaults(alloc: Global, line: &mut Line, store: &mut Store) {
+    tell_done(line, store.create_defaults(alloc));
 }
 
 /// Makes the call of a part.
 pub fn call(alloc: Global, line: &mut Line, store: &mut Store, part: &str) {
     match word(part, 0) {
-        "asked" => line.add_number("asked ", DavFileSystem::disk(store).asked()),
-        "defaults" => tell_done(line, store.create_defaults(alloc)),
+        "asked" => tell_asked(line, DavFileSystem::disk(store)),
+        "defaults" => create_defaults(alloc, line, store),
         "kept" => tell_kept(line, store.memory()),
-        "now" | "purge" => match moment_of(word(part, 1)) {
-            Some(now) => pass(line, store, word(part, 0), now),
-            None => line.refuse(),
-        },
+        "now" => set_now(line, store, word(part, 1)),
+        "purge" => purge(line, store.memory(), word(part, 1)),
         "out" => outside(alloc, line, DavFileSystem::disk(store), part),
         "copy" | "move" | "delete" => carry(alloc, line, store, part),
         _ => call_path(alloc, line, store, part),

@@ -13,22 +13,43 @@ use std::alloc::Global;
 type Store = LocalFs<MemDisk, Owned>;
 
 fn value_of(alloc: Global, cell: &str) -> Option<HeaderValue> {
-    let bytes = bytes_of(alloc, cell).ok()?;
-    HeaderValue::from_bytes(alloc, bytes.as_slice()).ok()
+    match bytes_of(alloc, cell) {
+        Ok(bytes) => HeaderValue::from_bytes(alloc, bytes.as_slice()).ok(),
+        Err(_) => None,
+    }
 }
 
-fn add_field(alloc: Global, fields: &mut HeaderMap, word: &str) -> Option<()> {
+fn append(line: &mut Line, fields: &mut HeaderMap, name: HeaderName, value: HeaderValue) {
+    if fields.append(name, value).is_err() {
+        line.refuse();
+    }
+}
+
+fn add_value(
+    alloc: Global,
+    line: &mut Line,
+    fields: &mut HeaderMap,
+    name: &str,
+    value: HeaderValue,
+) {
+    match HeaderName::from_bytes(alloc, name.as_bytes()) {
+        Ok(name) => append(line, fields, name, value),
+        Err(_) => line.refuse(),
+    }
+}
+
+fn add_field(alloc: Global, line: &mut Line, fields: &mut HeaderMap, word: &str) {
     let (name, value) = word.split_once(':').unwrap_or((word, ""));
-    let value = value_of(alloc, value)?;
-    let name = HeaderName::from_bytes(alloc, name.as_bytes()).ok()?;
-    fields.append(name, value).ok()?;
-    Some(())
+    match value_of(alloc, value) {
+        Some(value) => add_value(alloc, line, fields, name, value),
+        None => line.refuse(),
+    }
 }
 
 // Adds the fields of a part.
 fn add_fields(alloc: Global, line: &mut Line, fields: &mut HeaderMap, part: &str) {
     for word in part.split(' ').skip(3) {
-        line.need(add_field(alloc, fields, word));
+        add_field(alloc, line, fields, word);
     }
 }
 
@@ -53,17 +74,59 @@ fn prefix_of(word: &str) -> &str {
     if word == "-" { "" } else { word }
 }
 
+fn carry_move(
+    alloc: Global,
+    line: &mut Line,
+    store: &mut Store,
+    path: &DavPath,
+    fields: &HeaderMap,
+    prefix: &str,
+) {
+    tell_outcome(line, move_to(alloc, store, &(), path, fields, prefix));
+}
+
+fn carry_copy(
+    alloc: Global,
+    line: &mut Line,
+    store: &mut Store,
+    path: &DavPath,
+    fields: &HeaderMap,
+    prefix: &str,
+) {
+    tell_outcome(line, copy(alloc, store, &(), path, fields, prefix));
+}
+
+fn carry_delete(
+    alloc: Global,
+    line: &mut Line,
+    store: &mut Store,
+    path: &DavPath,
+    fields: &HeaderMap,
+) {
+    tell_outcome(line, delete(alloc, store, &(), path, fields));
+}
+
+fn carry_with(
+    alloc: Global,
+    line: &mut Line,
+    store: &mut Store,
+    path: &DavPath,
+    fields: &HeaderMap,
+    part: &str,
+) {
+    let prefix = prefix_of(word(part, 2));
+    match word(part, 0) {
+        "move" => carry_move(alloc, line, store, path, fields, prefix),
+        "delete" => carry_delete(alloc, line, store, path, fields),
+        _ => carry_copy(alloc, line, store, path, fields, prefix),
+    }
+}
+
 // Makes the call of a method at a path.
 fn carry_at(alloc: Global, line: &mut Line, store: &mut Store, path: &DavPath, part: &str) {
-    let prefix = prefix_of(word(part, 2));
     let mut fields = HeaderMap::new(alloc);
     add_fields(alloc, line, &mut fields, part);
-    let answer = match word(part, 0) {
-        "move" => move_to(alloc, store, &(), path, &fields, prefix),
-        "delete" => delete(alloc, store, &(), path, &fields),
-        _ => copy(alloc, store, &(), path, &fields, prefix),
-    };
-    tell_outcome(line, answer);
+    carry_with(alloc, line, store, path, &fields, part);
 }
 
 /// Makes the call of a method.

@@ -17,6 +17,29 @@ type Store = LocalFs<MemDisk, Owned>;
 // More answers than any listing of a row gives.
 const MOST: u64 = 10_000;
 
+// Asks a listing for an answer, adds the name or the fault, and tells whether it may be asked on.
+fn list_next<S: GuardedFileSystem<()>>(store: &mut S, dir: &mut S::Dir, line: &mut Line) -> bool
+    requires live { HasLister (S.view.state store.old) (S.listings.lister dir.old) }
+    ensures live { HasLister (S.view.state store.new) (S.listings.lister dir.new) }
+    ensures lister { S.listings.lister dir.new ≡ S.listings.lister dir.old }
+{
+    match store.next_entry(dir) {
+        Ok(Some(entry)) => {
+            line.tell(" ", entry.name());
+            true
+        }
+        Ok(None) => {
+            line.add(" end");
+            false
+        }
+        Err(error) => {
+            line.add(" ");
+            line.add_value(&error);
+            true
+        }
+    }
+}
+
 // Asks a listing for so many answers at most, and adds the names. A fault is told, and the listing asked on.
 fn list_on<S: GuardedFileSystem<()>>(store: &mut S, dir: &mut S::Dir, most: u64, line: &mut Line)
     requires live { HasLister (S.view.state store.old) (S.listings.lister dir.old) }
@@ -24,21 +47,15 @@ fn list_on<S: GuardedFileSystem<()>>(store: &mut S, dir: &mut S::Dir, most: u64,
     ensures lister { S.listings.lister dir.new ≡ S.listings.lister dir.old }
 {
     'entries: for _ in 0..most.min(MOST) {
-        line.add(" ");
-        match store.next_entry(dir) {
-            Ok(Some(entry)) => line.add(entry.name()),
-            Ok(None) => {
-                line.add("end");
-                return;
-            }
-            Err(error) => line.add_value(&error),
+        if !list_next(store, dir, line) {
+            return;
         }
     }
 }
 
 /// Adds the names that a listing gives first, and leaves it there.
 pub fn front(line: &mut Line, store: &mut Store, path: &DavPath, part: &str) {
-    let count = number(word(part, 2)).unwrap_or(0);
+    let count = number(line, word(part, 2));
     match DavFileSystem::read_dir(store, path, ReadDirMeta::Data) {
         Ok(mut dir) => {
             line.add("names");
@@ -81,9 +98,7 @@ fn list_around(line: &mut Line, store: &mut Store, path: &DavPath, count: u64, o
 
 /// The same, by the words of a part.
 pub fn list_while(alloc: Global, line: &mut Line, store: &mut Store, path: &DavPath, part: &str) {
-    let count = number(word(part, 2)).unwrap_or(0);
-    match outer_of(alloc, word(part, 3), word(part, 4), word(part, 5)) {
-        Some(outer) => list_around(line, store, path, count, &outer),
-        None => line.refuse(),
-    }
+    let count = number(line, word(part, 2));
+    let outer = outer_of(alloc, line, word(part, 3), word(part, 4), word(part, 5));
+    list_around(line, store, path, count, &outer);
 }

@@ -15,107 +15,117 @@ mod scene;
 
 use calls::call;
 use dav_cache::Owned;
-use dav_core::FsPath;
 use dav_disk::MemDisk;
 use dav_local::LocalFs;
 use dav_rows::{Line, word};
+use dav_store::DavFileSystem;
 use scene::{is_set, memory_of, path_of, set};
 use std::alloc::Global;
 use std::io;
 
 type Store = LocalFs<MemDisk, Owned>;
 
-// How paths are found, by a folder's two rules, or the one file.
-#[derive(Drop)]
-enum Ways {
-    Folder { fold: bool, macos: bool },
-    Alone(FsPath),
+// The rules by which paths are found in a folder.
+#[derive(Clone, Copy)]
+struct Ways {
+    fold: bool,
+    macos: bool,
 }
 
-// The ways that the first part of a row names.
-fn ways_of(alloc: Global, part: &str) -> Option<Ways> {
-    let (fold, macos) = match word(part, 0) {
+fn ways_of(line: &mut Line, name: &str) -> Ways {
+    let (fold, macos) = match name {
         "plain" => (false, false),
         "fold" => (true, false),
         "macos" => (false, true),
         "both" => (true, true),
-        "alone" => return Some(Ways::Alone(path_of(alloc, word(part, 1))?)),
-        _ => return None,
+        _ => {
+            line.refuse();
+            (false, false)
+        }
     };
-    Some(Ways::Folder { fold, macos })
-}
-
-fn store_of(disk: MemDisk, memory: Owned, ways: Ways) -> Store {
-    match ways {
-        Ways::Folder { fold, macos } => LocalFs::new(disk, memory, false, fold, macos),
-        Ways::Alone(file) => LocalFs::new_file(disk, memory, file, false),
-    }
+    Ways { fold, macos }
 }
 
 // Sets what stands on the disk, and what is remembered.
 fn set_all(alloc: Global, line: &mut Line, disk: &mut MemDisk, memory: &mut Owned, row: &str) {
     for part in row.split('|').skip(1) {
         if is_set(part.trim()) {
-            line.need(set(alloc, disk, memory, part.trim()));
+            set(alloc, line, disk, memory, part.trim());
         }
     }
+}
+
+fn call_one(alloc: Global, line: &mut Line, store: &mut Store, part: &str) {
+    call(alloc, line, store, part);
+    line.add(" | ");
 }
 
 fn call_all(alloc: Global, line: &mut Line, store: &mut Store, row: &str) {
     for part in row.split('|').skip(1) {
         if !is_set(part.trim()) {
-            call(alloc, line, store, part.trim());
-            line.add(" | ");
+            call_one(alloc, line, store, part.trim());
         }
     }
 }
 
-// What owns a disk, a memory or a store makes one call after the other, of which none has a way out.
-fn play(
-    alloc: Global,
-    line: &mut Line,
-    mut disk: MemDisk,
-    mut memory: Owned,
-    ways: Ways,
-    row: &str,
-) {
-    set_all(alloc, line, &mut disk, &mut memory, row);
-    let mut store = store_of(disk, memory, ways);
-    call_all(alloc, line, &mut store, row);
-    let (disk, _memory) = store.into_parts();
-    line.add_number("asked ", disk.asked());
+// Makes the calls of a row.
+fn play(alloc: Global, line: &mut Line, store: &mut Store, row: &str) {
+    call_all(alloc, line, store, row);
+    line.add_number("asked ", DavFileSystem::disk(store).asked());
 }
 
-fn over_disk(alloc: Global, line: &mut Line, disk: MemDisk, ways: Ways, row: &str) {
-    match memory_of(alloc, row) {
-        Some(memory) => play(alloc, line, disk, memory, ways, row),
+// What owns a disk, a memory or a store makes one call after the other, of which none has a way out.
+fn over_folder(alloc: Global, line: &mut Line, disk: MemDisk, memory: Owned, row: &str) {
+    let ways = ways_of(line, word(row, 0));
+    let mut store = LocalFs::new(disk, memory, false, ways.fold, ways.macos);
+    play(alloc, line, &mut store, row);
+}
+
+fn over_file(alloc: Global, line: &mut Line, disk: MemDisk, memory: Owned, row: &str) {
+    let file = path_of(alloc, line, word(row, 1));
+    let mut store = LocalFs::new_file(disk, memory, file, false);
+    play(alloc, line, &mut store, row);
+}
+
+fn over_memory(alloc: Global, line: &mut Line, disk: MemDisk, memory: Owned, row: &str) {
+    let mut disk = disk;
+    let mut memory = memory;
+    set_all(alloc, line, &mut disk, &mut memory, row);
+    if word(row, 0) == "alone" {
+        over_file(alloc, line, disk, memory, row);
+    } else {
+        over_folder(alloc, line, disk, memory, row);
+    }
+}
+
+fn over_disk(alloc: Global, line: &mut Line, disk: MemDisk, row: &str) {
+    match memory_of(alloc, line, row) {
+        Some(memory) => over_memory(alloc, line, disk, memory, row),
         None => line.refuse(),
     }
 }
 
-fn over(alloc: Global, line: &mut Line, ways: Ways, row: &str) {
+fn answer_row(alloc: Global, line: &mut Line, row: &str) {
     match MemDisk::new(alloc) {
-        Ok(disk) => over_disk(alloc, line, disk, ways, row),
+        Ok(disk) => over_disk(alloc, line, disk, row),
         Err(_) => line.refuse(),
     }
 }
 
-fn answer(alloc: Global, line: &mut Line, row: &str) {
-    match ways_of(alloc, row.split('|').next().unwrap_or("").trim()) {
-        Some(ways) => over(alloc, line, ways, row),
-        None => line.refuse(),
+fn answer(alloc: Global, row: &str) -> Line {
+    let mut line = Line::new(alloc);
+    if row.starts_with("#") {
+        line.add(row);
+    } else {
+        answer_row(alloc, &mut line, row);
     }
+    line
 }
 
 fn main(rt: HostRuntime) -> io::Result<()> {
     for row in rt.lines(rt.alloc()) {
         let row = row?;
-        let mut line = Line::new(rt.alloc());
-        if row.as_str().starts_with("#") {
-            line.add(row.as_str());
-        } else {
-            answer(rt.alloc(), &mut line, row.as_str());
-        }
+        let line = answer(rt.alloc(), row.as_str());
         println!(rt; "{}", line.as_str())?;
     }
     Ok(())

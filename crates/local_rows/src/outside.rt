@@ -14,16 +14,23 @@ pub struct Outer {
     to: FsPath,
 }
 
-/// The change of these words.
-pub fn outer_of(alloc: Global, kind: &str, from: &str, to: &str) -> Option<Outer> {
-    let copies = match kind {
+fn is_copy(line: &mut Line, kind: &str) -> bool {
+    match kind {
         "mv" => false,
         "cp" => true,
-        _ => return None,
-    };
-    let from = path_of(alloc, from)?;
-    let to = path_of(alloc, to)?;
-    Some(Outer { copies, from, to })
+        _ => {
+            line.refuse();
+            false
+        }
+    }
+}
+
+/// The change of these words.
+pub fn outer_of(alloc: Global, line: &mut Line, kind: &str, from: &str, to: &str) -> Outer {
+    let copies = is_copy(line, kind);
+    let from = path_of(alloc, line, from);
+    let to = path_of(alloc, line, to);
+    Outer { copies, from, to }
 }
 
 /// Makes a change. What is listed goes on to be.
@@ -47,8 +54,6 @@ pub fn tell_outer(line: &mut Line, answer: Result<(), DiskError>) {
 
 /// Makes the change of a part, whose first word is passed over.
 pub fn outside<D: Disk>(alloc: Global, line: &mut Line, disk: &mut D, part: &str) {
-    match outer_of(alloc, word(part, 1), word(part, 2), word(part, 3)) {
-        Some(outer) => tell_outer(line, make_outer(disk, &outer)),
-        None => line.refuse(),
-    }
+    let outer = outer_of(alloc, line, word(part, 1), word(part, 2), word(part, 3));
+    tell_outer(line, make_outer(disk, &outer));
 }
