@@ -5,27 +5,28 @@ use Rattle.std.specs.List.{flat_map}
 use Rattle.std.specs.Str.{bytes_eq}
 use Rattle.dav_lock.specs.Forests.{Forest}
 use Rattle.dav_lock.specs.declared.element.Element.{Element}
-use Rattle.dav_report.specs.Children.{texts, named, first_of, last_of, attribute, each}
-use Rattle.dav_report.specs.Requests.{last_match, is_not_defined, parameter_filters, properties, hrefs, number}
+use Rattle.dav_report.specs.Children.{texts, named, first_of, last_of, each}
+use Rattle.dav_report.specs.Requests.{parameter_filter, parameter_filters, properties, hrefs, number}
 use Rattle.dav_report.specs.declared.filters.ParameterFilter.{ParameterFilter}
 use Rattle.dav_report.specs.declared.carddav.property_filter.PropertyFilter.{PropertyFilter}
 use Rattle.dav_report.specs.declared.carddav.query.AddressBookQuery.{AddressBookQuery}
 use Rattle.dav_report.specs.declared.carddav.query.CardDavReportType.{CardDavReportType}
 use Rattle.dav_report.specs.declared.carddav.query.CardDavReportType.TheVariants.{AddressBookQuery as query, AddressBookMultiget}
 
-abbrev pub property_with : Element → Option (List ℕ) → Option (List ParameterFilter) → Option PropertyFilter
-property_with e (Some name) (Some filters) = Some (record {
-  name = name;
-  is_not_defined = is_not_defined e.children;
-  text_match = last_match e.children;
+abbrev pub property_with : Option ParameterFilter → Option (List ParameterFilter) → Option PropertyFilter
+property_with (Some asked) (Some filters) = Some (record {
+  name = asked.name;
+  is_not_defined = asked.is_not_defined;
+  text_match = asked.text_match;
   param_filters = filters;
 })
-property_with e (Some name) None = None
-property_with e None filters = None
+property_with (Some asked) None = None
+property_with None filters = None
 
--- a filter of a property; nothing where it has no name, or a filter of a parameter in it has none
+-- a filter of a property, which asks what one of a parameter may ask; nothing where it has no name, or a filter of a
+-- parameter in it has none
 abbrev pub property_filter : Element → Option PropertyFilter
-property_filter e = property_with e (attribute (codes "name") e) (parameter_filters e.children)
+property_filter e = property_with (parameter_filter e) (parameter_filters e.children)
 
 -- the filters of properties that stand in a `filter`
 abbrev pub outer_filters : Forest → Option (List PropertyFilter)

@@ -6,8 +6,9 @@ use Rattle.dav_calendar.specs.Moments.{moment}
 use Rattle.dav_lock.specs.Forests.{Forest, bare, then, element, text, comment, cdata, instruction}
 use Rattle.dav_lock.specs.declared.element.Element.{Element}
 use Rattle.dav_report.specs.Children.{named, first_of, last_of, attribute, each}
-use Rattle.dav_report.specs.Requests.{last_match, is_not_defined, properties, hrefs}
+use Rattle.dav_report.specs.Requests.{is_not_defined, parameter_filter, properties, hrefs}
 use Rattle.dav_report.specs.Filters.{Asked, Filters, no_filters, and_filter}
+use Rattle.dav_report.specs.declared.filters.ParameterFilter.{ParameterFilter}
 use Rattle.dav_report.specs.declared.caldav.property_filter.TimeRange.{TimeRange}
 use Rattle.dav_report.specs.declared.caldav.property_filter.PropertyFilter.{PropertyFilter}
 use Rattle.dav_report.specs.declared.caldav.component_filter.ComponentFilter.{ComponentFilter}
@@ -34,20 +35,21 @@ readable_range e =
 abbrev pub ranges : Forest → Option (List TimeRange)
 ranges children = each readable_range (named (codes "time-range") children)
 
-abbrev pub property_with : Element → Option (List ℕ) → Option (List TimeRange) → Option PropertyFilter
-property_with e (Some name) (Some ranges) = Some (record {
-  name = name;
-  is_not_defined = is_not_defined e.children;
-  text_match = last_match e.children;
+abbrev pub property_with : Option ParameterFilter → Option (List TimeRange) → Option PropertyFilter
+property_with (Some asked) (Some ranges) = Some (record {
+  name = asked.name;
+  is_not_defined = asked.is_not_defined;
+  text_match = asked.text_match;
   time_range = last_of ranges;
   param_filters = [];
 })
-property_with e (Some name) None = None
-property_with e None ranges = None
+property_with (Some asked) None = None
+property_with None ranges = None
 
--- a filter of a property; nothing where it has no name, or a range in it is at fault
+-- a filter of a property, which asks what one of a parameter may ask; nothing where it has no name, or a range in it is at
+-- fault
 abbrev pub property_filter : Element → Option PropertyFilter
-property_filter e = property_with e (attribute (codes "name") e) (ranges e.children)
+property_filter e = property_with (parameter_filter e) (ranges e.children)
 
 abbrev pub property_filters : Forest → Option (List PropertyFilter)
 property_filters children = each property_filter (named (codes "prop-filter") children)

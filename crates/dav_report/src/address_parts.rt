@@ -5,11 +5,10 @@ ghost use Rattle.dav_report.specs.Children.{last_of};
 ghost use Rattle.dav_report.specs.Requests.{number};
 ghost use Rattle.dav_report.specs.AddressBooks.{property_filter, outer_filters, counts, all_counts, address_query};
 
+use crate::ParameterFilter;
 use crate::carddav::{AddressBookQuery, PropertyFilter};
-use crate::children::{copy_attribute, element_named, first_text, has_named};
-use crate::filter_parts::{
-    FromElement, Outer, kept_filter, read_each, read_last_match, read_parameters, read_properties,
-};
+use crate::children::{element_named, first_text};
+use crate::filter_parts::{FromElement, Outer, read_each, read_parameters, read_query};
 use dav_io::{NoMemory, Text};
 use dav_lock::{Element, Nodes, both};
 use std::alloc::Global;
@@ -18,22 +17,17 @@ impl FromElement for PropertyFilter {
     ghost asked = { property_filter };
 
     fn read(alloc: Global, element: &Element) -> Result<Option<Self>, NoMemory> {
-        let name = match copy_attribute(element, "name")? {
-            Some(name) => name,
-            None => return Ok(None),
-        };
-        let param_filters = match read_parameters(alloc, &element.children)? {
-            Some(filters) => filters,
-            None => return Ok(None),
-        };
-        let is_not_defined = has_named(&element.children, "is-not-defined");
-        match read_last_match(alloc, &element.children) {
-            Ok(text_match) => Ok(Some(PropertyFilter {
-                name,
-                is_not_defined,
-                text_match,
+        match both(
+            ParameterFilter::read(alloc, element),
+            read_parameters(alloc, &element.children),
+        ) {
+            Ok((Some(asked), Some(param_filters))) => Ok(Some(PropertyFilter {
+                name: asked.name,
+                is_not_defined: asked.is_not_defined,
+                text_match: asked.text_match,
                 param_filters,
             })),
+            Ok(_) => Ok(None),
             Err(error) => Err(error),
         }
     }
@@ -96,18 +90,12 @@ pub(crate) fn read_address_query(
 ) -> Result<Option<AddressBookQuery>, NoMemory>
     ensures { IfOk result (λ read. read ≡ address_query children.now) }
 {
-    match both(
-        kept_filter(alloc, children),
-        read_properties(alloc, children),
-    ) {
-        Ok((kept, properties)) => match kept {
-            Some(prop_filter) => Ok(Some(AddressBookQuery {
-                prop_filter,
-                properties,
-                limit: read_limit(children),
-            })),
-            None => Ok(None),
-        },
-        Err(error) => Err(error),
+    match read_query(alloc, children)? {
+        Some((prop_filter, properties)) => Ok(Some(AddressBookQuery {
+            prop_filter,
+            properties,
+            limit: read_limit(children),
+        })),
+        None => Ok(None),
     }
 }

@@ -4,14 +4,12 @@ ghost use Rattle.dav_report.specs.Calendars.{time_range, is_bound as the_bound, 
 ghost use Rattle.dav_report.specs.Children.{last_of};
 ghost use Rattle.dav_report.specs.FilterLists.{asked_by};
 
-use crate::ParameterFilters;
 use crate::caldav::{
     CalendarQuery, ComponentFilter, ComponentFilters, PropertyFilter, PropertyFilters, TimeRange,
 };
 use crate::children::{copy_attribute, element_named, first_named, has_named};
-use crate::filter_parts::{
-    FromElement, Outer, kept_filter, later, read_each, read_last_match, read_properties,
-};
+use crate::filter_parts::{FromElement, Outer, later, read_each, read_query};
+use crate::{ParameterFilter, ParameterFilters};
 use dav_calendar::read_moment;
 use dav_io::{NoMemory, Text};
 use dav_lock::{Element, Nodes, XmlNode, both};
@@ -81,23 +79,18 @@ impl FromElement for PropertyFilter {
     ghost asked = { property_filter };
 
     fn read(alloc: Global, element: &Element) -> Result<Option<Self>, NoMemory> {
-        let name = match copy_attribute(element, "name")? {
-            Some(name) => name,
-            None => return Ok(None),
-        };
-        let time_range = match read_last_range(alloc, &element.children)? {
-            Some(range) => range,
-            None => return Ok(None),
-        };
-        let is_not_defined = has_named(&element.children, "is-not-defined");
-        match read_last_match(alloc, &element.children) {
-            Ok(text_match) => Ok(Some(PropertyFilter {
-                name,
-                is_not_defined,
-                text_match,
+        match both(
+            ParameterFilter::read(alloc, element),
+            read_last_range(alloc, &element.children),
+        ) {
+            Ok((Some(asked), Some(time_range))) => Ok(Some(PropertyFilter {
+                name: asked.name,
+                is_not_defined: asked.is_not_defined,
+                text_match: asked.text_match,
                 time_range,
                 param_filters: ParameterFilters::empty(alloc),
             })),
+            Ok(_) => Ok(None),
             Err(error) => Err(error),
         }
     }
@@ -215,18 +208,12 @@ pub(crate) fn read_calendar_query(
 ) -> Result<Option<CalendarQuery>, NoMemory>
     ensures { IfOk result (λ read. read ≡ calendar_query children.now) }
 {
-    match both(
-        kept_filter(alloc, children),
-        read_properties(alloc, children),
-    ) {
-        Ok((kept, properties)) => match kept {
-            Some(comp_filter) => Ok(Some(CalendarQuery {
-                comp_filter,
-                time_range: None,
-                properties,
-            })),
-            None => Ok(None),
-        },
-        Err(error) => Err(error),
+    match read_query(alloc, children)? {
+        Some((comp_filter, properties)) => Ok(Some(CalendarQuery {
+            comp_filter,
+            time_range: None,
+            properties,
+        })),
+        None => Ok(None),
     }
 }

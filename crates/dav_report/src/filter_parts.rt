@@ -110,10 +110,7 @@ pub(crate) trait Outer: Sized + Drop {
 }
 
 /// The filter that a query keeps, which is the last; or nothing where any is at fault.
-pub(crate) fn kept_filter<F: Outer>(
-    alloc: Global,
-    children: &Nodes,
-) -> Result<Option<Option<F>>, NoMemory>
+fn kept_filter<F: Outer>(alloc: Global, children: &Nodes) -> Result<Option<Option<F>>, NoMemory>
     ensures { IfOk result
         (λ read. read
         ≡ option_map (λ filters. last_of (flat_map (λ fs. fs) filters))
@@ -137,6 +134,7 @@ pub(crate) fn kept_filter<F: Outer>(
 impl FromElement for ParameterFilter {
     ghost asked = { parameter_filter };
 
+    /// What a parameter is asked, a property is asked too: that it is there or isn't, and its text.
     fn read(alloc: Global, element: &Element) -> Result<Option<Self>, NoMemory> {
         match copy_attribute(element, "name")? {
             Some(name) => {
@@ -168,6 +166,28 @@ pub(crate) fn read_parameters(
     }
 }
 
+/// The filter that a query keeps and the properties that it asks for; or nothing where a filter is at fault.
+pub(crate) fn read_query<F: Outer>(
+    alloc: Global,
+    children: &Nodes,
+) -> Result<Option<(Option<F>, Names)>, NoMemory>
+    ensures { IfOk result
+        (λ read. read
+        ≡ option_map (λ filters. (last_of (flat_map (λ fs. fs) filters), properties children.now))
+        (each (λ f. F.outer f.children) (named (codes "filter") children.now))) }
+{
+    match both(
+        kept_filter(alloc, children),
+        read_properties(alloc, children),
+    ) {
+        Ok((kept, properties)) => match kept {
+            Some(filter) => Ok(Some((filter, properties))),
+            None => Ok(None),
+        },
+        Err(error) => Err(error),
+    }
+}
+
 /// Adds the names of the elements.
 fn add_names(names: &mut Names, nodes: &Nodes) -> Result<(), NoMemory>
     ensures { OnOk result (names.new ≡ names.old ++ map (λ e. e.name) (elements nodes.now)) }
@@ -183,7 +203,7 @@ fn add_names(names: &mut Names, nodes: &Nodes) -> Result<(), NoMemory>
 }
 
 /// The names of the properties that each `prop` asks for.
-pub(crate) fn read_properties(alloc: Global, children: &Nodes) -> Result<Names, NoMemory>
+fn read_properties(alloc: Global, children: &Nodes) -> Result<Names, NoMemory>
     ensures { IfOk result (λ read. read ≡ properties children.now) }
 {
     let mut names = Names::empty(alloc);
