@@ -10,25 +10,25 @@ use crate::carddav::{AddressBookQuery, PropertyFilter};
 use crate::children::{element_named, first_text};
 use crate::filter_parts::{FromElement, Outer, read_each, read_parameters, read_query};
 use dav_io::{NoMemory, Text};
-use dav_lock::{Element, Nodes, both};
+use dav_lock::{Element, Nodes};
 use std::alloc::Global;
 
 impl FromElement for PropertyFilter {
     ghost asked = { property_filter };
 
     fn read(alloc: Global, element: &Element) -> Result<Option<Self>, NoMemory> {
-        match both(
-            ParameterFilter::read(alloc, element),
-            read_parameters(alloc, &element.children),
-        ) {
-            Ok((Some(asked), Some(param_filters))) => Ok(Some(PropertyFilter {
+        let asked = match ParameterFilter::read(alloc, element)? {
+            Some(asked) => asked,
+            None => return Ok(None),
+        };
+        match read_parameters(alloc, &element.children)? {
+            Some(param_filters) => Ok(Some(PropertyFilter {
                 name: asked.name,
                 is_not_defined: asked.is_not_defined,
                 text_match: asked.text_match,
                 param_filters,
             })),
-            Ok(_) => Ok(None),
-            Err(error) => Err(error),
+            None => Ok(None),
         }
     }
 }

@@ -79,19 +79,19 @@ impl FromElement for PropertyFilter {
     ghost asked = { property_filter };
 
     fn read(alloc: Global, element: &Element) -> Result<Option<Self>, NoMemory> {
-        match both(
-            ParameterFilter::read(alloc, element),
-            read_last_range(alloc, &element.children),
-        ) {
-            Ok((Some(asked), Some(time_range))) => Ok(Some(PropertyFilter {
+        let asked = match ParameterFilter::read(alloc, element)? {
+            Some(asked) => asked,
+            None => return Ok(None),
+        };
+        match read_last_range(alloc, &element.children)? {
+            Some(time_range) => Ok(Some(PropertyFilter {
                 name: asked.name,
                 is_not_defined: asked.is_not_defined,
                 text_match: asked.text_match,
                 time_range,
                 param_filters: ParameterFilters::empty(alloc),
             })),
-            Ok(_) => Ok(None),
-            Err(error) => Err(error),
+            None => Ok(None),
         }
     }
 }
