@@ -5,8 +5,7 @@ import os
 HERE = os.path.dirname(os.path.abspath(__file__))
 TOP = os.path.dirname(os.path.dirname(HERE))
 DRIVERS = ("step_rows", "run_rows", "handle_rows", "local_rows", "memory_rows", "condition_rows", "text_rows",
-           "wire_rows", "report_rows", "selection_rows", "host_rows", "upload_rows",
-           "mirror_rows", "session_rows", "readcache_rows")
+           "wire_rows", "report_rows", "host_rows", "upload_rows", "mirror_rows", "session_rows", "readcache_rows")
 
 
 def file_of(driver, name):
@@ -25,7 +24,7 @@ class Compared:
         module = importlib.import_module(driver)
         rows, self.driver, self.old = lines_of(driver, "stdin"), driver, lines_of(driver, "stdout")
         self.new = module.wanted_all(rows)
-        self.rows = [row for row in rows if getattr(module, "is_answered", lambda _: True)(row)]
+        self.rows = [row for row, _ in module.answered(rows)] if hasattr(module, "answered") else rows
         self.reasons = getattr(module, "REASONS", "")
         self.beside = getattr(module, "beside", lambda row, line: None)
         self.beyond = [at for at, line in enumerate(self.new) if line is None]

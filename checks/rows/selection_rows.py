@@ -1,12 +1,12 @@
-"""The wanted rows of `selection_rows`: calendar and address book requests to a local store. Only requests are
+"""The wanted rows of selections of `report_rows`: calendar and address book requests to a local store. Only requests are
 answered."""
 from calls import FS_TEXTS
 from disk import SECOND, Disk
+from element_rows import root
 from model import FsError, path_of
-from report_rows import root
 from reports import Bad, FreeBusy, selected
 from store import Store
-from texts import number, print_wanted, unescaped, word
+from texts import number, unescaped, word
 
 WAYS = {"fold": (True, False), "macos": (False, True), "both": (True, True)}
 SIGNS = {"\n": "\\n", "\r": "\\r", "\t": "\\t", " ": "\\_", "\\": "\\\\"}
@@ -69,22 +69,19 @@ def answer(disk, ways, words):
     return f"{line} ({disk.asked - before})"
 
 
-def is_answered(row):
-    return row.split(" ")[0] in ("calendar", "cards")
+class Model:
+    """What is wanted row after row, with the disk and the ways that the rows before left."""
 
+    def __init__(self):
+        self.disk, self.ways = Disk(), []
 
-def wanted_all(rows):
-    disk, ways, lines = Disk(), [], []
-    for row in rows:
+    def wanted(self, row):
+        """The answer to a row, or None where it has none."""
         words = row.split(" ")
-        if is_answered(row):
-            lines.append(answer(disk, ways, words))
-        elif words[0] == "ways":
-            ways = words
+        if words[0] in ("calendar", "cards"):
+            return answer(self.disk, self.ways, words)
+        if words[0] == "ways":
+            self.ways = words
         else:
-            disk = change(disk, words)
-    return lines
-
-
-if __name__ == "__main__":
-    print_wanted(wanted_all)
+            self.disk = change(self.disk, words)
+        return None

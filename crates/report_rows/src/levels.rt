@@ -2,11 +2,11 @@
 //! copy of the tree, and `filter-levels TREE` of the filter in a copy of the calendar report. Each counts along the
 //! first child.
 
+use crate::trees::root;
 use dav_lock::Element;
 use dav_report::caldav::{CalDavReportType, ComponentFilter};
 use dav_report::{ElementExt, parse_calendar_report};
 use dav_rows::Line;
-use dav_tree_rows::root;
 use std::alloc::Global;
 
 fn tree_levels(root: &Element) -> u64 {

@@ -19,48 +19,61 @@ fn lease(row: &str) -> Option<Lease> {
     }
 }
 
-fn given(alloc: Global, row: &str) -> Option<DavLock> {
-    let path = DavPath::new(alloc, "/a").ok()?;
-    let id = Uuid::parse_str("00000000-0000-4000-8000-00000000000A").ok()?;
+/// Adds the lock that is given.
+pub fn lock(alloc: Global, line: &mut Line, row: &str) {
+    match DavPath::new(alloc, "/a") {
+        Ok(path) => lock_at(alloc, line, row, &path),
+        Err(_) => line.refuse(),
+    }
+}
+
+fn lock_at(alloc: Global, line: &mut Line, row: &str, path: &DavPath) {
+    match Uuid::parse_str("00000000-0000-4000-8000-00000000000A") {
+        Ok(id) => tell_copy(line, given(alloc, row, path, id)),
+        Err(_) => line.refuse(),
+    }
+}
+
+fn given(alloc: Global, row: &str, path: &DavPath, id: Uuid) -> Result<DavLock, LockError> {
     let now = Moment(word(row, 5).parse::<u64>().unwrap_or(0));
     let shared = word(row, 4) == "S";
     let deep = word(row, 3) == "I";
-    FakeLs::new()
-        .lock(
-            alloc,
-            &path,
-            Some("me"),
-            None,
-            lease(row),
-            shared,
-            deep,
-            now,
-            id,
-        )
-        .ok()
-}
-
-fn refreshed(alloc: Global, row: &str) -> Option<DavLock> {
-    let path = DavPath::new(alloc, "/a").ok()?;
-    FakeLs::new()
-        .refresh(alloc, &path, word(row, 1), None, Moment(0))
-        .ok()
-}
-
-/// Adds the lock that is given.
-pub fn lock(alloc: Global, line: &mut Line, row: &str) {
-    if let Some(lock) = given(alloc, row) {
-        match lock.try_clone() {
-            Ok(copy) => tell_lock(line, &copy),
-            Err(_) => line.refuse(),
-        }
-    }
+    FakeLs::new().lock(
+        alloc,
+        path,
+        Some("me"),
+        None,
+        lease(row),
+        shared,
+        deep,
+        now,
+        id,
+    )
 }
 
 /// Adds the lock that is refreshed.
 pub fn refresh(alloc: Global, line: &mut Line, row: &str) {
-    if let Some(lock) = refreshed(alloc, row) {
-        tell_lock(line, &lock);
+    match DavPath::new(alloc, "/a") {
+        Ok(path) => refresh_at(alloc, line, row, &path),
+        Err(_) => line.refuse(),
+    }
+}
+
+fn refresh_at(alloc: Global, line: &mut Line, row: &str, path: &DavPath) {
+    match FakeLs::new().refresh(alloc, path, word(row, 1), None, Moment(0)) {
+        Ok(lock) => tell_lock(line, &lock),
+        Err(_) => line.refuse(),
+    }
+}
+
+// Tells a copy of the lock, so that copies are looked at too.
+fn tell_copy(line: &mut Line, given: Result<DavLock, LockError>) {
+    match given {
+        Ok(lock) => match lock.try_clone() {
+            Ok(copy) => tell_lock(line, &copy),
+            Err(_) => line.refuse(),
+        },
+        Err(_) => line.refuse(),
     }
 }
 

@@ -8,13 +8,13 @@
 //!   the value that each of the two calls finds.
 
 use crate::texts::tell_whether;
+use crate::trees::{read, root, tell_tree};
 use dav_io::{NoMemory, Text};
 use dav_lock::{Element, Pairs};
 use dav_report::ElementExt;
 use dav_report::caldav::*;
 use dav_report::carddav::*;
 use dav_rows::{Line, word};
-use dav_tree_rows::{read, root, tell_tree};
 use std::alloc::Global;
 
 /// Adds what a row makes.

@@ -1,12 +1,13 @@
 #!/usr/bin/env python3
-"""Makes the rows of the program `calendar_rows` and the answers that it must print, from the rules for calendar texts and
-their filters alone (docs/DECISIONS.md, "Calendar texts"), and from nothing that the program does.
+"""Makes the rows of calendars of the program `report_rows` and the answers that it must print, from the rules for calendar
+texts and their filters alone (docs/DECISIONS.md, "Calendar texts"), and from nothing that the program does.
 
-    checks/rows/calendar.py [--cases COUNT] [--seed NUMBER] [--check]
+    checks/rows/calendar_rows.py [--cases COUNT] [--seed NUMBER] [--check]
 
 The rows of calendar_rows.txt come first, each with an answer that is written there by hand; the model below must give the
-same. Then come COUNT random calendars and vCards, each with a filter. With --check nothing is written, and the status is 0
-where the program's stdin and stdout are those that would be. It wants Python 3 alone.
+same. Then come COUNT random calendars and vCards, each with a filter. They take the place of that part of the program's
+stdin and stdout. With --check nothing is written, and the status is 0 where those are the rows that stand. It wants
+Python 3 alone.
 """
 import argparse
 import datetime
@@ -17,7 +18,7 @@ import re
 import sys
 
 HERE = os.path.dirname(os.path.abspath(__file__))
-PROGRAM = os.path.join(os.path.dirname(os.path.dirname(HERE)), "crates", "calendar_rows")
+PROGRAM = os.path.join(os.path.dirname(os.path.dirname(HERE)), "crates", "report_rows")
 BAD = "the request is no report"
 
 
@@ -386,24 +387,37 @@ def answer(text, row):
     return whether(overlaps(found[0], start, end))
 
 
-class Rows:
-    """Rows, and the answers to those that have one."""
+class Model:
+    """What is wanted row after row, with the text that the rows before left."""
 
     def __init__(self):
-        self.rows, self.answers, self.text = [], [], ""
+        self.text = ""
 
-    def add(self, row):
-        """The answer of the model, where the row has one."""
-        self.rows.append(row)
+    def wanted(self, row):
+        """The answer to a row, or None where it has none."""
         words = row.split(" ")
         if words[0] == "text":
             self.text = unescaped(words[1])
         elif words[0] == "more":
             self.text += int(words[1]) * unescaped(words[2])
         else:
-            self.answers.append(answer(self.text, row))
-            return self.answers[-1]
+            return answer(self.text, row)
         return None
+
+
+class Rows:
+    """Rows, and the answers to those that have one."""
+
+    def __init__(self):
+        self.rows, self.answers, self.model = [], [], Model()
+
+    def add(self, row):
+        """The answer of the model, where the row has one."""
+        self.rows.append(row)
+        line = self.model.wanted(row)
+        if line is not None:
+            self.answers.append(line)
+        return line
 
 
 def add_written(rows, path):
@@ -634,6 +648,16 @@ def add_random(rows, cases, seed):
         rows.add(a_row(r, text, is_card))
 
 
+PART = "# calendars\n"
+
+
+def with_part(text, lines):
+    """A file of the program with these lines in its part of calendars, which ends where the next one begins."""
+    front, part = text.split(PART)
+    behind = part.find("\n# ") + 1
+    return front + PART + "".join(line + "\n" for line in lines) + (part[behind:] if behind else "")
+
+
 def main():
     parser = argparse.ArgumentParser(description=__doc__, formatter_class=argparse.RawDescriptionHelpFormatter)
     parser.add_argument("--cases", type=int, default=1000)
@@ -649,13 +673,13 @@ def main():
         len(rows.rows), written, {told: tail.count(told) for told in ("true", "false", BAD, "no tree")}), file=sys.stderr)
     for name, lines in (("stdin", rows.rows), ("stdout", rows.answers)):
         path = os.path.join(PROGRAM, name)
-        made = "".join(line + "\n" for line in lines)
+        with open(path, encoding="utf-8", newline="\n") as file:
+            stands = file.read()
+        made = with_part(stands, lines)
+        wrong += asked.check and stands != made
         if not asked.check:
             with open(path, "w", encoding="utf-8", newline="\n") as file:
                 file.write(made)
-        else:
-            with open(path, encoding="utf-8", newline="\n") as file:
-                wrong += file.read() != made
     return 1 if wrong else 0
 
 

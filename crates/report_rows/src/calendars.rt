@@ -1,4 +1,7 @@
-//! What each call answers, in words.
+//! Reads calendar texts and judges them, and vCards, by the filters of requests.
+//!
+//! `text WORD` is the text from here on, and `more COUNT WORD` adds to it so many times. Neither is answered, but where
+//! memory is refused.
 //!
 //! - `tree` prints the components of the text, and `count` how many components there are, with those in others.
 //! - `moment WORD` and `duration WORD` print what a text says in seconds.
@@ -7,6 +10,8 @@
 //! - `calendar TREE` and `cards TREE` ask whether the filter of a request matches the text.
 
 use crate::components::{count_all, tell_all};
+use crate::texts::add_times;
+use crate::trees::root;
 use dav_calendar::{Components, overlaps, read_components, read_duration, read_moment};
 use dav_io::{NoMemory, Text};
 use dav_lock::Element;
@@ -15,11 +20,49 @@ use dav_report::caldav::CalDavReportType;
 use dav_report::carddav::CardDavReportType;
 use dav_report::{parse_addressbook_report, parse_calendar_report};
 use dav_rows::{Line, unescaped_text, word};
-use dav_tree_rows::root;
 use std::alloc::Global;
 
-/// Adds the answer to a row.
-pub fn answer(alloc: Global, line: &mut Line, text: &Text, row: &str) {
+// The text with what a row adds to it.
+fn with_more(alloc: Global, text: &Text, row: &str) -> Result<Text, NoMemory> {
+    let part = unescaped_text(alloc, word(row, 2))?;
+    let mut whole = String::from_str(alloc, text.as_str())?;
+    let times = word(row, 1).parse::<u64>().unwrap_or(0);
+    add_times(&mut whole, part.as_str(), times)?;
+    Ok(Text::new(whole))
+}
+
+fn text_of(alloc: Global, text: &Text, row: &str) -> Result<Text, NoMemory> {
+    if word(row, 0) == "text" {
+        return unescaped_text(alloc, word(row, 1));
+    }
+    with_more(alloc, text, row)
+}
+
+fn set(alloc: Global, line: &mut Line, text: &mut Text, row: &str) -> bool {
+    match text_of(alloc, text, row) {
+        Ok(new) => {
+            *text = new;
+            false
+        }
+        Err(_) => {
+            line.refuse();
+            true
+        }
+    }
+}
+
+/// Adds the answer to a row, and says whether it has one.
+pub fn answer(alloc: Global, line: &mut Line, text: &mut Text, row: &str) -> bool {
+    match word(row, 0) {
+        "text" | "more" => set(alloc, line, text, row),
+        _ => {
+            tell(alloc, line, text, row);
+            true
+        }
+    }
+}
+
+fn tell(alloc: Global, line: &mut Line, text: &Text, row: &str) {
     match word(row, 0) {
         "tree" | "count" | "overlaps" => match read_components(alloc, text.as_str()) {
             Ok(Some(found)) => components(alloc, line, &found, row),

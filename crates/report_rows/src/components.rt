@@ -1,33 +1,16 @@
 //! Components in words: `b|NAME` begins one, `p|NAME|VALUE` is a property of it, and `/` ends it. Texts are written as
 //! words write them.
+use crate::texts::tell_word;
 use dav_calendar::{Component, Components};
-use dav_io::{NoMemory, Text};
+use dav_io::NoMemory;
 use dav_rows::Line;
 use std::alloc::Global;
 
-fn tell_char(line: &mut Line, c: char) {
-    match c {
-        '\n' => line.add("\\n"),
-        '\r' => line.add("\\r"),
-        '\t' => line.add("\\t"),
-        ' ' => line.add("\\_"),
-        '\\' => line.add("\\\\"),
-        _ => line.add_value(&c),
-    }
-}
-
-fn tell_text(line: &mut Line, mark: &str, text: &Text) {
-    line.add(mark);
-    for c in text.as_str().chars() {
-        tell_char(line, c);
-    }
-}
-
 fn tell_begin(line: &mut Line, component: &Component) {
-    tell_text(line, " b|", &component.name);
+    tell_word(line, " b|", &component.name);
     for property in component.properties.as_slice() {
-        tell_text(line, " p|", &property.name);
-        tell_text(line, "|", &property.value);
+        tell_word(line, " p|", &property.name);
+        tell_word(line, "|", &property.value);
     }
 }
 

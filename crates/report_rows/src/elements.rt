@@ -1,15 +1,15 @@
-//! What each call answers, in words.
+//! What calls answer that read and make elements.
 //!
-//! The reading calls are `calendar TREE`, `addresses TREE`, and, of a text, `is-calendar`, `is-vcard`, `calendar-uid`,
+//! Those that read are `calendar TREE`, `addresses TREE`, and, of a text, `is-calendar`, `is-vcard`, `calendar-uid`,
 //! `vcard-uid` and `vcard-fn`. `making.rt`, `values.rt`, `levels.rt` and `locks.rt` have the others.
 
 use crate::texts::{tell_maybe, tell_whether};
+use crate::trees::root;
 use crate::{filters, levels, locks, making, values};
 use dav_io::{NoMemory, Text};
 use dav_lock::Element;
 use dav_report::*;
 use dav_rows::{Line, unescaped, word};
-use dav_tree_rows::root;
 use std::alloc::Global;
 
 /// Adds the answer to a row.
