@@ -8,7 +8,7 @@ ghost use Rattle.dav_local.specs.LocalFiles.{local_file};
 
 use crate::readers::Pieces;
 use crate::requests::request_of;
-use crate::settings::{Config, Store};
+use crate::settings::Store;
 use crate::stores::given_config;
 use crate::told;
 use dav_body::{Body, StreamBody};
@@ -35,34 +35,6 @@ pub struct Form<'a> {
 fn streamed(request: Request<Pieces>) -> Request<StreamBody<Pieces>> {
     let (head, body) = request.into_parts();
     Request::from_parts(head, StreamBody::new(body))
-}
-
-// The answer to a request by a form that takes no configuration.
-fn answered(handler: &mut Handler, form: &str, request: Request<Pieces>) -> Answered<LocalFsFile>
-    ensures { IfOk result (λ r. IfSome handler.new.store (λ s. MayPoll
-        (λ b d. IsHeld local_file (mem_state d) b) (inner_of r) s.disk)) }
-{
-    match form {
-        "guarded" | "none_guarded" => handler.handle_guarded(request, "somebody", (), Moment(0)),
-        "stream" | "none_stream" => handler.handle_stream(streamed(request), Moment(0)),
-        _ => handler.handle(request, Moment(0)),
-    }
-}
-
-// The answer to a request by a form that takes one.
-fn answered_with(
-    handler: &mut Handler,
-    form: &str,
-    config: Config,
-    request: Request<Pieces>,
-) -> Answered<LocalFsFile>
-    ensures { IfOk result (λ r. IfSome handler.new.store (λ s. MayPoll
-        (λ b d. IsHeld local_file (mem_state d) b) (inner_of r) s.disk)) }
-{
-    match form {
-        "with" | "none_with" => handler.handle_with(config, request, Moment(0)),
-        _ => handler.handle_stream_with(config, streamed(request), Moment(0)),
-    }
 }
 
 // Adds what a body gives that is polled with its disk. One that is given up is ended.
@@ -93,7 +65,7 @@ fn tell_response(
         (λ b d. IsHeld local_file (mem_state d) b) (inner_of response) s.disk) }
 {
     told::tell_head(line, &response);
-    let (_, body) = response.into_parts();
+    let body = response.into_body();
     match handler.store() {
         Some(fs) => tell_polled(alloc, line, DavFileSystem::disk(fs), body, part),
         None => told::tell_kind(line, &body),
@@ -116,45 +88,72 @@ fn tell_answer(
     }
 }
 
-// Adds the answer to a request by a form that takes a configuration.
-fn ask_with(
-    alloc: Global,
-    line: &mut Line,
-    handler: &mut Handler,
-    form: Form<'_>,
-    request: Request<Pieces>,
-    part: &str,
-) {
-    match given_config(alloc, form.given) {
-        Some(config) => {
-            let answer = answered_with(handler, form.name, config, request);
-            tell_answer(alloc, line, handler, answer, part);
-        }
-        None => line.refuse(),
+fn ask_plainly(alloc: Global, line: &mut Line, handler: &mut Handler, part: &str) {
+    let request = request_of(alloc, line, part);
+    let answer = handler.handle(request, Moment(0));
+    tell_answer(alloc, line, handler, answer, part);
+}
+
+fn ask_guarded(alloc: Global, line: &mut Line, handler: &mut Handler, part: &str) {
+    let request = request_of(alloc, line, part);
+    let answer = handler.handle_guarded(request, "somebody", (), Moment(0));
+    tell_answer(alloc, line, handler, answer, part);
+}
+
+fn ask_by_stream(alloc: Global, line: &mut Line, handler: &mut Handler, part: &str) {
+    let request = request_of(alloc, line, part);
+    let answer = handler.handle_stream(streamed(request), Moment(0));
+    tell_answer(alloc, line, handler, answer, part);
+}
+
+// Adds the answer to a request by a form that takes no configuration.
+fn ask(alloc: Global, line: &mut Line, handler: &mut Handler, form: Form<'_>, part: &str) {
+    match form.name {
+        "guarded" | "none_guarded" => ask_guarded(alloc, line, handler, part),
+        "stream" | "none_stream" => ask_by_stream(alloc, line, handler, part),
+        _ => ask_plainly(alloc, line, handler, part),
     }
 }
 
-// Adds the answer to a request.
-fn ask(
+fn ask_plainly_with(
     alloc: Global,
     line: &mut Line,
     handler: &mut Handler,
     form: Form<'_>,
-    request: Request<Pieces>,
     part: &str,
 ) {
-    if form.name.ends_with("with") {
-        ask_with(alloc, line, handler, form, request, part);
-    } else {
-        let answer = answered(handler, form.name, request);
-        tell_answer(alloc, line, handler, answer, part);
+    let config = given_config(alloc, line, form.given);
+    let request = request_of(alloc, line, part);
+    let answer = handler.handle_with(config, request, Moment(0));
+    tell_answer(alloc, line, handler, answer, part);
+}
+
+fn ask_by_stream_with(
+    alloc: Global,
+    line: &mut Line,
+    handler: &mut Handler,
+    form: Form<'_>,
+    part: &str,
+) {
+    let config = given_config(alloc, line, form.given);
+    let request = request_of(alloc, line, part);
+    let answer = handler.handle_stream_with(config, streamed(request), Moment(0));
+    tell_answer(alloc, line, handler, answer, part);
+}
+
+// Adds the answer to a request by a form that takes a configuration.
+fn ask_with(alloc: Global, line: &mut Line, handler: &mut Handler, form: Form<'_>, part: &str) {
+    match form.name {
+        "with" | "none_with" => ask_plainly_with(alloc, line, handler, form, part),
+        _ => ask_by_stream_with(alloc, line, handler, form, part),
     }
 }
 
 fn answer(alloc: Global, line: &mut Line, handler: &mut Handler, form: Form<'_>, part: &str) {
-    match request_of(alloc, part) {
-        Some(request) => ask(alloc, line, handler, form, request, part),
-        None => line.refuse(),
+    if form.name.ends_with("with") {
+        ask_with(alloc, line, handler, form, part);
+    } else {
+        ask(alloc, line, handler, form, part);
     }
 }
 

@@ -13,7 +13,7 @@ use crate::seen::{show, show_frame, show_next, show_poll};
 use crate::steps::{Digits, Failing};
 use bytes::Bytes;
 use dav_body::{AsyncStream, Attached, Body, BodyFault, Sender, StreamBody, collect};
-use dav_io::NoMemory;
+use dav_io::{NoMemory, Octets};
 use dav_rows::{Line, word};
 use futures::executor::block_on;
 use futures::future::poll_fn;
@@ -40,31 +40,54 @@ fn polls_of(row: &str) -> u32 {
     word(row, 3).parse::<u32>().unwrap_or(4).min(POLLS)
 }
 
+fn poll(alloc: Global, line: &mut Line, body: &mut Body<Digits>, steps: &mut u32) {
+    show_poll(line, body.poll_next(alloc, steps));
+}
+
 // What polls of a body give.
 fn polls(alloc: Global, line: &mut Line, body: &mut Body<Digits>, count: u32) {
     line.add("polls");
     let mut steps = 0;
     for _ in 0..count {
-        show_poll(line, body.poll_next(alloc, &mut steps));
+        poll(alloc, line, body, &mut steps);
     }
 }
 
-fn collected(alloc: Global, line: &mut Line, body: &mut Body<Digits>) {
-    let mut steps = 0;
-    match collect(alloc, body, &mut steps) {
+fn polls_of_steps(alloc: Global, line: &mut Line, row: &str) {
+    let mut body = body_of(row);
+    polls(alloc, line, &mut body, polls_of(row));
+}
+
+fn show_all(line: &mut Line, all: Result<Octets, BodyFault>) {
+    match all {
         Ok(bytes) => show(line, bytes.as_slice()),
         Err(BodyFault::Broken) => line.add("broken"),
         Err(BodyFault::NoMemory) => line.add("out of memory"),
     }
+}
+
+fn collected(alloc: Global, line: &mut Line, row: &str) {
+    let mut body = body_of(row);
+    let mut steps = 0;
+    let all = collect(alloc, &mut body, &mut steps);
+    show_all(line, all);
     line.add_number(" by ", u64::from(steps));
+}
+
+fn bytes_body(alloc: Global, text: &str) -> Result<Body<Digits>, NoMemory> {
+    Ok(Body::from_bytes(Bytes::copy_from_slice(alloc, text.as_bytes())?))
+}
+
+fn string_body(alloc: Global, text: &str) -> Result<Body<Digits>, NoMemory> {
+    Body::from_string(String::from_str(alloc, text)?)
 }
 
 // A body of a row's text.
 fn body_with(alloc: Global, kind: &str, text: &str) -> Result<Body<Digits>, NoMemory> {
     match kind {
         "str" => Body::from_str(alloc, text),
-        "string" => Body::from_string(String::from_str(alloc, text)?),
-        "bytes" => Ok(Body::from_bytes(Bytes::copy_from_slice(alloc, text.as_bytes())?)),
+        "string" => string_body(alloc, text),
+        "bytes" => bytes_body(alloc, text),
         _ => Ok(Body::empty()),
     }
 }
@@ -144,6 +167,16 @@ fn frames<R: Wait + RandomSource + AllocGlobal>(
     }
 }
 
+fn frames_of_steps<R: Wait + RandomSource + AllocGlobal>(
+    rt: &R,
+    alloc: Global,
+    line: &mut Line,
+    row: &str,
+) {
+    let mut body = body_of(row);
+    frames(rt, alloc, line, &mut body, polls_of(row));
+}
+
 /// Adds the answer to a row that polls a body, and tells whether it is one.
 pub fn answer<R: Wait + RandomSource + AllocGlobal>(
     rt: &R,
@@ -152,9 +185,9 @@ pub fn answer<R: Wait + RandomSource + AllocGlobal>(
     row: &str,
 ) -> bool {
     match word(row, 0) {
-        "steps" => polls(alloc, line, &mut body_of(row), polls_of(row)),
-        "collect" => collected(alloc, line, &mut body_of(row)),
-        "frames" => frames(rt, alloc, line, &mut body_of(row), polls_of(row)),
+        "steps" => polls_of_steps(alloc, line, row),
+        "collect" => collected(alloc, line, row),
+        "frames" => frames_of_steps(rt, alloc, line, row),
         "bytes" | "str" | "string" | "empty" => polls_of_text(alloc, line, row),
         "slot" => slot(line, row),
         "reader" => first_frame(rt, line, reader_of(row)),

@@ -24,32 +24,48 @@ mod stores;
 mod told;
 
 use asked::{Form, answers};
+use dav_disk::MemDisk;
 use dav_rows::{Line, word};
-use settings::{Config, config_of, tell_merged};
+use settings::{config_of, tell_merged};
 use std::alloc::{AllocGlobal, Global};
 use std::io;
 use std::random::RandomSource;
 use std::sync::Wait;
-use stores::{disk_of, with_store};
+use stores::{set_own, store_of};
 
-// Answers the requests of a row by a handler of this configuration.
-fn answer_by(alloc: Global, line: &mut Line, config: Config, form: Form<'_>, parts: &str) {
+fn answer_without(alloc: Global, line: &mut Line, form: Form<'_>, words: &str, parts: &str) {
+    let mut handler = config_of(alloc, line, words).build_handler();
+    answers(alloc, line, &mut handler, form, parts);
+}
+
+fn answer_over(
+    alloc: Global,
+    line: &mut Line,
+    disk: MemDisk,
+    form: Form<'_>,
+    words: &str,
+    parts: &str,
+) {
+    let mut disk = disk;
+    set_own(alloc, line, &mut disk);
+    let config = config_of(alloc, line, words).filesystem(store_of(disk));
     let mut handler = config.build_handler();
     answers(alloc, line, &mut handler, form, parts);
 }
 
-// The configuration of a row: with a store, unless its form has none.
-fn own_config(alloc: Global, form: Form<'_>, words: &str) -> Option<Config> {
-    if form.name.starts_with("none") {
-        return config_of(alloc, words);
+fn answer_with_disk(alloc: Global, line: &mut Line, form: Form<'_>, words: &str, parts: &str) {
+    match MemDisk::new(alloc) {
+        Ok(disk) => answer_over(alloc, line, disk, form, words, parts),
+        Err(_) => line.refuse(),
     }
-    with_store(config_of(alloc, words), disk_of(alloc))
 }
 
+// A handler has a store, unless its form has none.
 fn answer_requests(alloc: Global, line: &mut Line, form: Form<'_>, words: &str, parts: &str) {
-    match own_config(alloc, form, words) {
-        Some(config) => answer_by(alloc, line, config, form, parts),
-        None => line.refuse(),
+    if form.name.starts_with("none") {
+        answer_without(alloc, line, form, words, parts);
+    } else {
+        answer_with_disk(alloc, line, form, words, parts);
     }
 }
 
@@ -77,8 +93,9 @@ fn answer<R: Wait + RandomSource + AllocGlobal>(rt: &R, alloc: Global, line: &mu
 
 fn main(rt: HostRuntime) -> io::Result<()> {
     for row in rt.lines(rt.alloc()) {
+        let row = row?;
         let mut line = Line::new(rt.alloc());
-        answer(&rt, rt.alloc(), &mut line, row?.as_str());
+        answer(&rt, rt.alloc(), &mut line, row.as_str());
         println!(rt; "{}", line.as_str())?;
     }
     Ok(())

@@ -1,17 +1,45 @@
 //! The requests of a row: a part has its method, its target, and fields as `NAME:VALUE`. A word `=COUNT` is a body of so
 //! many bytes in pieces of at most 30,000; `!CALL` lets the reader fail at that call.
+//! What isn't understood, or is refused memory, refuses the line, and is left out.
 use crate::readers::Pieces;
-use dav_rows::word;
+use dav_rows::{Line, word};
 use http::header::{HeaderName, HeaderValue};
 use http::{HeaderMap, Method, Request, Uri};
 use std::alloc::Global;
 
-fn add_field(alloc: Global, fields: &mut HeaderMap, word: &str) -> Option<()> {
+fn append(line: &mut Line, fields: &mut HeaderMap, name: HeaderName, value: HeaderValue) {
+    if fields.append(name, value).is_err() {
+        line.refuse();
+    }
+}
+
+fn add_value(
+    alloc: Global,
+    line: &mut Line,
+    fields: &mut HeaderMap,
+    name: HeaderName,
+    value: &str,
+) {
+    match HeaderValue::from_bytes(alloc, value.as_bytes()) {
+        Ok(value) => append(line, fields, name, value),
+        Err(_) => line.refuse(),
+    }
+}
+
+fn add_field(alloc: Global, line: &mut Line, fields: &mut HeaderMap, word: &str) {
     let (name, value) = word.split_once(':').unwrap_or((word, ""));
-    let name = HeaderName::from_bytes(alloc, name.as_bytes()).ok()?;
-    let value = HeaderValue::from_bytes(alloc, value.as_bytes()).ok()?;
-    fields.append(name, value).ok()?;
-    Some(())
+    match HeaderName::from_bytes(alloc, name.as_bytes()) {
+        Ok(name) => add_value(alloc, line, fields, name, value),
+        Err(_) => line.refuse(),
+    }
+}
+
+fn add_fields(alloc: Global, line: &mut Line, fields: &mut HeaderMap, part: &str) {
+    for word in part.split(' ').skip(2) {
+        if word.contains(":") {
+            add_field(alloc, line, fields, word);
+        }
+    }
 }
 
 fn number_behind(word: &str, sign: &str) -> Option<u64> {
@@ -21,46 +49,37 @@ fn number_behind(word: &str, sign: &str) -> Option<u64> {
     }
 }
 
-// The body that a part's words ask for.
-fn body_of(part: &str) -> Pieces {
-    let mut count: u64 = 0;
-    let mut fails_at: u64 = 0;
+// The last number behind a sign, or 0.
+fn last_behind(part: &str, sign: &str) -> u64 {
+    let mut last: u64 = 0;
     for word in part.split(' ').skip(2) {
-        if let Some(bytes) = number_behind(word, "=") {
-            count = bytes;
-        }
-        if let Some(call) = number_behind(word, "!") {
-            fails_at = call;
+        if let Some(number) = number_behind(word, sign) {
+            last = number;
         }
     }
-    Pieces::new(count as usize, fails_at)
+    last
 }
 
-fn set_method(alloc: Global, request: &mut Request<Pieces>, word: &str) -> Option<()> {
-    *request.method_mut() = Method::from_bytes(alloc, word.as_bytes()).ok()?;
-    Some(())
-}
-
-fn set_target(alloc: Global, request: &mut Request<Pieces>, word: &str) -> Option<()> {
-    *request.uri_mut() = Uri::from_str(alloc, word).ok()?;
-    Some(())
-}
-
-// Sets the method, the target and the fields of a part.
-fn fill(alloc: Global, request: &mut Request<Pieces>, part: &str) -> Option<()> {
-    set_method(alloc, request, word(part, 0))?;
-    set_target(alloc, request, word(part, 1))?;
-    for word in part.split(' ').skip(2) {
-        if word.contains(":") {
-            add_field(alloc, request.headers_mut(), word)?;
-        }
+fn set_method(alloc: Global, line: &mut Line, request: &mut Request<Pieces>, word: &str) {
+    match Method::from_bytes(alloc, word.as_bytes()) {
+        Ok(method) => *request.method_mut() = method,
+        Err(_) => line.refuse(),
     }
-    Some(())
+}
+
+fn set_target(alloc: Global, line: &mut Line, request: &mut Request<Pieces>, word: &str) {
+    match Uri::from_str(alloc, word) {
+        Ok(target) => *request.uri_mut() = target,
+        Err(_) => line.refuse(),
+    }
 }
 
 /// The request of a part.
-pub fn request_of(alloc: Global, part: &str) -> Option<Request<Pieces>> {
-    let mut request = Request::new(alloc, body_of(part));
-    let filled = fill(alloc, &mut request, part);
-    filled.map(|_| request)
+pub fn request_of(alloc: Global, line: &mut Line, part: &str) -> Request<Pieces> {
+    let body = Pieces::new(last_behind(part, "=") as usize, last_behind(part, "!"));
+    let mut request = Request::new(alloc, body);
+    set_method(alloc, line, &mut request, word(part, 0));
+    set_target(alloc, line, &mut request, word(part, 1));
+    add_fields(alloc, line, request.headers_mut(), part);
+    request
 }

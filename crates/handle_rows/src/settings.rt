@@ -8,6 +8,7 @@ use dav_local::LocalFs;
 use dav_rows::Line;
 use http::Method;
 use std::alloc::Global;
+use std::mem;
 
 pub type Store = LocalFs<MemDisk, Forget>;
 
@@ -19,97 +20,135 @@ const METHODS: &str =
     MKADDRESSBOOK";
 
 fn method_of(alloc: Global, word: &str) -> Option<DavMethod> {
-    let method = Method::from_bytes(alloc, word.as_bytes()).ok()?;
-    dav_method(&method).ok()
+    match Method::from_bytes(alloc, word.as_bytes()) {
+        Ok(method) => dav_method(&method).ok(),
+        Err(_) => None,
+    }
 }
 
-fn methods_of(alloc: Global, words: &str) -> Option<DavMethodSet> {
+fn add_method(alloc: Global, line: &mut Line, methods: &mut DavMethodSet, word: &str) {
+    match method_of(alloc, word) {
+        Some(method) => methods.add(method),
+        None => line.refuse(),
+    }
+}
+
+fn methods_of(alloc: Global, line: &mut Line, words: &str) -> DavMethodSet {
     let mut methods = DavMethodSet::none();
     for word in words.split(',') {
-        methods.add(method_of(alloc, word)?);
+        add_method(alloc, line, &mut methods, word);
     }
-    Some(methods)
+    methods
 }
 
-fn with_methods(config: Config, methods: Option<DavMethodSet>) -> Result<Config, NoMemory> {
-    match methods {
-        Some(methods) => Ok(config.methods(methods)),
-        None => Err(NoMemory),
-    }
+// Takes a configuration out, to be put back with a setting more.
+fn taken(alloc: Global, config: &mut Config) -> Config {
+    mem::replace(config, DavConfig::new(alloc))
 }
 
-fn with_flag(config: Config, name: &str, yes: bool) -> Config {
-    match name {
-        "hide" => config.hide_symlinks(yes),
-        "autoindex" => config.autoindex(yes),
-        "redirect" => config.redirect(yes),
-        _ => config,
+fn put(line: &mut Line, config: &mut Config, new: Result<Config, NoMemory>) {
+    match new {
+        Ok(new) => *config = new,
+        Err(_) => line.refuse(),
     }
 }
 
-fn with_prefix(config: Config, prefix: &str) -> Result<Config, NoMemory> {
-    if !DavPath::prefix_fits(prefix) {
-        return Ok(config);
+fn set_prefix(alloc: Global, line: &mut Line, config: &mut Config, prefix: &str) {
+    if DavPath::prefix_fits(prefix) {
+        let new = taken(alloc, config).strip_prefix(prefix);
+        put(line, config, new);
     }
-    config.strip_prefix(prefix)
 }
 
-fn with_index(config: Config, name: &str) -> Result<Config, NoMemory> {
-    if !is_plain(name.as_bytes()) {
-        return Ok(config);
+fn set_index(alloc: Global, line: &mut Line, config: &mut Config, name: &str) {
+    if is_plain(name.as_bytes()) {
+        let new = taken(alloc, config).indexfile(name);
+        put(line, config, new);
     }
-    config.indexfile(name)
 }
 
-// The configuration with what a word sets.
-fn with_word(alloc: Global, config: Config, word: &str) -> Result<Config, NoMemory> {
+fn set_principal(alloc: Global, line: &mut Line, config: &mut Config, principal: &str) {
+    let new = taken(alloc, config).principal(principal);
+    put(line, config, new);
+}
+
+fn set_methods(alloc: Global, line: &mut Line, config: &mut Config, words: &str) {
+    let methods = methods_of(alloc, line, words);
+    let new = taken(alloc, config).methods(methods);
+    put(line, config, Ok(new));
+}
+
+fn set_buffer(alloc: Global, line: &mut Line, config: &mut Config, size: usize) {
+    let new = taken(alloc, config).read_buf_size(size);
+    put(line, config, Ok(new));
+}
+
+fn set_hide(alloc: Global, line: &mut Line, config: &mut Config, yes: bool) {
+    let new = taken(alloc, config).hide_symlinks(yes);
+    put(line, config, Ok(new));
+}
+
+fn set_autoindex(alloc: Global, line: &mut Line, config: &mut Config, yes: bool) {
+    let new = taken(alloc, config).autoindex(yes);
+    put(line, config, Ok(new));
+}
+
+fn set_redirect(alloc: Global, line: &mut Line, config: &mut Config, yes: bool) {
+    let new = taken(alloc, config).redirect(yes);
+    put(line, config, Ok(new));
+}
+
+// Sets what a word sets. Other words set nothing.
+fn set_word(alloc: Global, line: &mut Line, config: &mut Config, word: &str) {
     let (name, value) = word.split_once('=').unwrap_or((word, ""));
     match name {
-        "prefix" => with_prefix(config, value),
-        "methods" => with_methods(config, methods_of(alloc, value)),
-        "principal" => config.principal(value),
-        "index" => with_index(config, value),
-        "buffer" => Ok(config.read_buf_size(value.parse::<usize>().unwrap_or(0))),
-        _ => Ok(with_flag(config, name, value == "yes")),
+        "prefix" => set_prefix(alloc, line, config, value),
+        "methods" => set_methods(alloc, line, config, value),
+        "principal" => set_principal(alloc, line, config, value),
+        "index" => set_index(alloc, line, config, value),
+        "buffer" => set_buffer(alloc, line, config, value.parse::<usize>().unwrap_or(0)),
+        "hide" => set_hide(alloc, line, config, value == "yes"),
+        "autoindex" => set_autoindex(alloc, line, config, value == "yes"),
+        "redirect" => set_redirect(alloc, line, config, value == "yes"),
+        _ => {}
     }
 }
 
-fn set_word(alloc: Global, config: &mut Option<Config>, word: &str) {
-    if let Some(old) = config.take() {
-        *config = with_word(alloc, old, word).ok();
-    }
-}
-
-fn set_words(alloc: Global, config: &mut Option<Config>, words: &str) {
+fn set_words(alloc: Global, line: &mut Line, config: &mut Config, words: &str) {
     for word in words.split(' ') {
-        set_word(alloc, config, word);
+        set_word(alloc, line, config, word);
     }
 }
 
 /// The configuration that words ask for, without a store.
-pub fn config_of(alloc: Global, words: &str) -> Option<Config> {
-    let mut config = Some(DavConfig::new(alloc));
-    set_words(alloc, &mut config, words);
+pub fn config_of(alloc: Global, line: &mut Line, words: &str) -> Config {
+    let mut config = DavConfig::new(alloc);
+    set_words(alloc, line, &mut config, words);
     config
 }
 
-// The settings that words ask for, with others in their place where those are set.
-fn settings_over(alloc: Global, words: &str, new: &Settings) -> Option<Settings> {
-    config_of(alloc, words)?.merge(new).ok()
+// The settings of a configuration, with others in their place where those are set.
+fn settings_over(alloc: Global, line: &mut Line, config: &Config, new: &Settings) -> Settings {
+    match config.merge(new) {
+        Ok(settings) => settings,
+        Err(_) => {
+            line.refuse();
+            Settings::defaults(alloc)
+        }
+    }
 }
 
-fn merged(alloc: Global, old: &str, new: &str) -> Option<Settings> {
-    let new = settings_over(alloc, new, &Settings::defaults(alloc))?;
-    settings_over(alloc, old, &new)
+fn merged(alloc: Global, line: &mut Line, words: &str, new: &Settings) -> Settings {
+    let config = config_of(alloc, line, words);
+    settings_over(alloc, line, &config, new)
 }
 
 /// Adds the settings of one configuration, with those of another in their place where they are set.
 pub fn tell_merged(alloc: Global, line: &mut Line, old: &str, new: &str) {
     line.add("merged");
-    match merged(alloc, old, new) {
-        Some(settings) => tell(alloc, line, &settings),
-        None => line.refuse(),
-    }
+    let new = merged(alloc, line, new, &Settings::defaults(alloc));
+    let all = merged(alloc, line, old, &new);
+    tell(alloc, line, &all);
 }
 
 fn tell_text(line: &mut Line, name: &str, text: &str) {
@@ -132,17 +171,23 @@ fn tell_option(line: &mut Line, name: &str, text: &Option<Text>) {
     }
 }
 
+fn tell_method(line: &mut Line, word: &str, is_in: bool) {
+    if is_in {
+        line.tell(",", word);
+    }
+}
+
+fn tell_if_in(alloc: Global, line: &mut Line, methods: DavMethodSet, word: &str) {
+    match method_of(alloc, word) {
+        Some(method) => tell_method(line, word, methods.contains(method)),
+        None => line.refuse(),
+    }
+}
+
 fn tell_methods(alloc: Global, line: &mut Line, methods: DavMethodSet) {
     line.add(" methods");
     for word in METHODS.split(' ') {
-        match method_of(alloc, word) {
-            Some(method) => {
-                if methods.contains(method) {
-                    line.tell(",", word);
-                }
-            }
-            None => line.refuse(),
-        }
+        tell_if_in(alloc, line, methods, word);
     }
 }
 

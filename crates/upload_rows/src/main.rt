@@ -30,7 +30,6 @@ mod scene;
 mod steps;
 mod words;
 
-use anyhow::Result;
 use dav_cache::Owned;
 use dav_core::{FsError, Member};
 use dav_disk::MemDisk;
@@ -39,19 +38,22 @@ use dav_rows::Line;
 use dav_store::{DavFile, GuardedFileSystem, read_members};
 use dav_upload::{Upload, abort, sweep};
 use reading::{close, get, read_on};
-use scene::{disk_of, is_set};
+use scene::{is_set, set_all};
 use std::alloc::Global;
+use std::io;
 use steps::{step, tell_refusal};
 use words::{CallWords, said};
 
+fn tell_members(line: &mut Line, members: &[Member]) {
+    line.add_number("names ", members.len() as u64);
+    for member in members {
+        line.tell(" ", member.name.as_str());
+    }
+}
+
 fn tell_names(line: &mut Line, answer: Result<Vec<Member>, FsError>) {
     match answer {
-        Ok(members) => {
-            line.add_number("names ", members.len() as u64);
-            for member in members.as_slice() {
-                line.tell(" ", member.name.as_str());
-            }
-        }
+        Ok(members) => tell_members(line, members.as_slice()),
         Err(error) => line.add_value(&error),
     }
 }
@@ -127,31 +129,66 @@ fn play<S: GuardedFileSystem<()>>(
     close(store, reader);
 }
 
-fn answer(alloc: Global, row: &str, line: &mut Line) -> Result<()> {
-    let disk = disk_of(alloc, row)?;
-    let mut calls = Vec::new(alloc);
-    for part in row.split('|') {
-        if !is_set(part.trim()) {
-            calls.push(said(alloc, part.trim())?)?;
-        }
+fn add_call(alloc: Global, line: &mut Line, calls: &mut Vec<CallWords>, part: &str) {
+    match said(alloc, line, part) {
+        Some(call) => line.need(calls.push(call).ok()),
+        None => line.refuse(),
     }
-    let mut store = LocalFs::new(disk, Owned::new(alloc, 1, 1)?, false, false, false);
-    play::<LocalFs<MemDisk, Owned>>(alloc, line, &mut store, &calls);
-    let (disk, _memory) = store.into_parts();
-    line.add_number("asked ", disk.asked());
-    Ok(())
 }
 
-fn main(rt: HostRuntime) -> Result<()> {
-    for line in rt.lines(rt.alloc()) {
-        let row = line?;
-        let mut text = Line::new(rt.alloc());
-        if row.as_str().starts_with("#") {
-            text.add(row.as_str());
-        } else {
-            answer(rt.alloc(), row.as_str(), &mut text)?;
+// Adds the calls of a row.
+fn add_calls(alloc: Global, line: &mut Line, calls: &mut Vec<CallWords>, row: &str) {
+    for part in row.split('|') {
+        if !is_set(part.trim()) {
+            add_call(alloc, line, calls, part.trim());
         }
-        println!(rt; "{}", text.as_str())?;
+    }
+}
+
+fn tell_disk(line: &mut Line, store: LocalFs<MemDisk, Owned>) {
+    let (disk, _memory) = store.into_parts();
+    line.add_number("asked ", disk.asked());
+}
+
+// Makes calls of a store over this disk, which remembers a path and a name.
+fn play_over(alloc: Global, line: &mut Line, disk: MemDisk, memory: Owned, calls: &[CallWords]) {
+    let mut store = LocalFs::new(disk, memory, false, false, false);
+    play::<LocalFs<MemDisk, Owned>>(alloc, line, &mut store, calls);
+    tell_disk(line, store);
+}
+
+fn play_on(alloc: Global, line: &mut Line, disk: MemDisk, calls: &[CallWords]) {
+    match Owned::new(alloc, 1, 1) {
+        Ok(memory) => play_over(alloc, line, disk, memory, calls),
+        Err(_) => line.refuse(),
+    }
+}
+
+fn play_row(alloc: Global, line: &mut Line, row: &str, calls: &[CallWords]) {
+    match MemDisk::new(alloc) {
+        Ok(mut disk) => {
+            set_all(alloc, &mut disk, line, row);
+            play_on(alloc, line, disk, calls);
+        }
+        Err(_) => line.refuse(),
+    }
+}
+
+fn answer(alloc: Global, line: &mut Line, row: &str) {
+    if row.starts_with('#') {
+        line.add(row);
+        return;
+    }
+    let mut calls = Vec::new(alloc);
+    add_calls(alloc, line, &mut calls, row);
+    play_row(alloc, line, row, &calls);
+}
+
+fn main(rt: HostRuntime) -> io::Result<()> {
+    for row in rt.lines(rt.alloc()) {
+        let mut line = Line::new(rt.alloc());
+        answer(rt.alloc(), &mut line, row?.as_str());
+        println!(rt; "{}", line.as_str())?;
     }
     Ok(())
 }

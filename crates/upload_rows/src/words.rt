@@ -1,17 +1,15 @@
 //! The words of a call.
 use crate::reading::Reading;
 use crate::steps::Call;
-use anyhow::{Result, bail};
 use dav_core::DavPath;
-use dav_rows::bytes_of;
+use dav_rows::{Line, bytes_of, word};
 use http::HeaderMap;
 use http::header::{HeaderName, HeaderValue};
 use std::alloc::Global;
 
-/// A part that makes a call: of the upload of a slot, of the reader, or another.
+/// A part that makes a call: of the upload of a slot, the first or the second, of the reader, or another.
 #[derive(Drop)]
 pub struct CallWords {
-    pub first: bool,
     pub second: bool,
     pub kind: String,
     pub path: DavPath,
@@ -46,63 +44,121 @@ impl CallWords {
     }
 }
 
-fn add_field(alloc: Global, fields: &mut HeaderMap, word: &str) -> Result<()> {
-    let mut halves = word.splitn(2, ':');
-    let name = HeaderName::from_bytes(alloc, halves.next().unwrap_or("").as_bytes())?;
-    let value = bytes_of(alloc, halves.next().unwrap_or(""))?;
-    fields.append(name, HeaderValue::from_bytes(alloc, value.as_slice())?)?;
-    Ok(())
+fn name_of(alloc: Global, text: &str) -> Option<HeaderName> {
+    HeaderName::from_bytes(alloc, text.as_bytes()).ok()
 }
 
-fn token_of(word: &str) -> Result<u64> {
-    match u64::from_str_radix(word, 16) {
-        Ok(token) => Ok(token),
-        Err(_) => bail!("no token: {word}"),
+fn value_of(alloc: Global, text: &str) -> Option<HeaderValue> {
+    let value = bytes_of(alloc, text).ok()?;
+    HeaderValue::from_bytes(alloc, value.as_slice()).ok()
+}
+
+fn add_named(alloc: Global, fields: &mut HeaderMap, line: &mut Line, name: HeaderName, text: &str) {
+    match value_of(alloc, text) {
+        Some(value) => {
+            if fields.append(name, value).is_err() {
+                line.refuse();
+            }
+        }
+        None => line.refuse(),
     }
 }
 
-fn path_of(alloc: Global, word: &str) -> Result<DavPath> {
-    match DavPath::new(alloc, word) {
-        Ok(path) => Ok(path),
-        Err(_) => bail!("no path: {word}"),
+fn add_field(alloc: Global, fields: &mut HeaderMap, line: &mut Line, word: &str) {
+    let (name, text) = word.split_once(':').unwrap_or((word, ""));
+    match name_of(alloc, name) {
+        Some(name) => add_named(alloc, fields, line, name, text),
+        None => line.refuse(),
+    }
+}
+
+// Adds the fields behind so many words.
+fn add_fields(alloc: Global, fields: &mut HeaderMap, line: &mut Line, words: &str, before: usize) {
+    for field in words.split(' ').skip(before) {
+        add_field(alloc, fields, line, field);
+    }
+}
+
+fn fields_of(alloc: Global, line: &mut Line, words: &str) -> HeaderMap {
+    let mut fields = HeaderMap::new(alloc);
+    match word(words, 0) {
+        "begin" => add_fields(alloc, &mut fields, line, words, 3),
+        "commit" => add_fields(alloc, &mut fields, line, words, 1),
+        _ => {}
+    }
+    fields
+}
+
+// The token of a call that begins an upload.
+fn token_of(line: &mut Line, words: &str) -> u64 {
+    if word(words, 0) != "begin" {
+        return 0;
+    }
+    match u64::from_str_radix(word(words, 2), 16) {
+        Ok(token) => token,
+        Err(_) => {
+            line.refuse();
+            0
+        }
+    }
+}
+
+fn copy_of(alloc: Global, line: &mut Line, text: &str) -> String {
+    match String::from_str(alloc, text) {
+        Ok(copy) => copy,
+        Err(_) => {
+            line.refuse();
+            String::new(alloc)
+        }
+    }
+}
+
+fn is_of_slot(part: &str) -> bool {
+    part.starts_with("1 ") || part.starts_with("2 ")
+}
+
+// The words of a part, behind its slot.
+fn words_of(part: &str) -> &str {
+    match part.strip_prefix("1 ") {
+        Some(words) => words,
+        None => part.strip_prefix("2 ").unwrap_or(part),
+    }
+}
+
+// The path of a part. One that has none has the root.
+fn path_word(part: &str) -> &str {
+    let words = words_of(part);
+    let has_path = match word(words, 0) {
+        "begin" => true,
+        "read" | "close" => false,
+        _ => !is_of_slot(part),
+    };
+    let path = word(words, 1);
+    if has_path && !path.is_empty() {
+        path
+    } else {
+        "/"
+    }
+}
+
+// What a part says at this path.
+fn said_at(alloc: Global, line: &mut Line, part: &str, path: DavPath) -> CallWords {
+    let words = words_of(part);
+    CallWords {
+        second: part.starts_with("2 "),
+        kind: copy_of(alloc, line, word(words, 0)),
+        path,
+        token: token_of(line, words),
+        bytes: copy_of(alloc, line, word(words, 1)),
+        fields: fields_of(alloc, line, words),
     }
 }
 
 /// What a part says: `SLOT begin PATH TOKEN FIELD..`, `SLOT piece BYTES`, `SLOT commit FIELD..`, `SLOT abort`,
 /// `read COUNT`, `close`, or a word and a path. A token is written in hexadecimal digits.
-pub fn said(alloc: Global, part: &str) -> Result<CallWords> {
-    let first = part.starts_with("1 ");
-    let second = part.starts_with("2 ");
-    let words = if first || second { &part[2..] } else { part };
-    let kind = words.split(' ').next().unwrap_or("");
-    let word = words.split(' ').nth(1).unwrap_or("");
-    let begins = kind == "begin";
-    let reads = matches!(kind, "read" | "close");
-    let has_path = begins || !(first || second || reads);
-    let mut fields = HeaderMap::new(alloc);
-    if begins || kind == "commit" {
-        for field in words.split(' ').skip(if begins { 3 } else { 1 }) {
-            add_field(alloc, &mut fields, field)?;
-        }
+pub fn said(alloc: Global, line: &mut Line, part: &str) -> Option<CallWords> {
+    match DavPath::new(alloc, path_word(part)) {
+        Ok(path) => Some(said_at(alloc, line, part, path)),
+        Err(_) => None,
     }
-    Ok(CallWords {
-        first,
-        second,
-        kind: String::from_str(alloc, kind)?,
-        path: path_of(
-            alloc,
-            if has_path && !word.is_empty() {
-                word
-            } else {
-                "/"
-            },
-        )?,
-        token: token_of(if begins {
-            words.split(' ').nth(2).unwrap_or("")
-        } else {
-            "0"
-        })?,
-        bytes: String::from_str(alloc, word)?,
-        fields,
-    })
 }
