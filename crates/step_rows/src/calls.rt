@@ -13,7 +13,7 @@ ghost use Rattle.std.specs.Prelude.{◌≡◌, IsSome};
 use dav_core::{Disk, DiskError, FsPath, Handle, Kind, Lister, Meta, OpenOptions};
 use dav_disk::{MemDisk, SureDisk};
 use dav_io::{NoMemory, Text};
-use dav_rows::Line;
+use dav_rows::{Line, word};
 use dav_scenes::{
     Standing, batch_of, number, path_of, set_disk, standing_of, tell_bytes, tell_time,
 };
@@ -58,21 +58,37 @@ fn tell_read(line: &mut Line, answer: Result<usize, DiskError>, buffer: &[u8]) {
     }
 }
 
-// Reads into a room of so many bytes, at least one.
+// Reads into a room of bytes, where it has any.
+fn read_into<D: Disk>(disk: &mut D, file: Handle, buffer: &mut [u8], line: &mut Line)
+    requires { IsSome ((D.state disk.old).live file.0) }
+    ensures { IsSome ((D.state disk.new).live file.0) }
+{
+    if buffer.is_empty() {
+        line.refuse();
+    } else {
+        let answer = disk.read(file, buffer);
+        tell_read(line, answer, buffer);
+    }
+}
+
+// Reads into a room of so many bytes.
 fn read<D: Disk>(alloc: Global, disk: &mut D, file: Handle, room: u64, line: &mut Line)
     requires { IsSome ((D.state disk.old).live file.0) }
     ensures { IsSome ((D.state disk.new).live file.0) }
 {
     match vec![in alloc; 0u8; room.min(MOST) as usize] {
-        Ok(mut buffer) => {
-            if buffer.is_empty() {
-                line.refuse();
-            } else {
-                let answer = disk.read(file, buffer.as_mut_slice());
-                tell_read(line, answer, &buffer);
-            }
-        }
+        Ok(mut buffer) => read_into(disk, file, buffer.as_mut_slice(), line),
         Err(_) => line.refuse(),
+    }
+}
+
+fn seek<D: Disk>(disk: &mut D, file: Handle, place: u64, line: &mut Line)
+    requires { IsSome ((D.state disk.old).live file.0) }
+    ensures { IsSome ((D.state disk.new).live file.0) }
+{
+    match disk.seek(file, place) {
+        Ok(()) => line.add("sought"),
+        Err(error) => line.add_value(&error),
     }
 }
 
@@ -86,10 +102,7 @@ fn call_file<D: Disk>(alloc: Global, disk: &mut D, file: Handle, word: &str, lin
     let second = cells.next().unwrap_or("");
     match kind {
         "meta" => tell_meta(line, disk.file_meta(file)),
-        "seek" => match disk.seek(file, number(second)) {
-            Ok(()) => line.add("sought"),
-            Err(error) => line.add_value(&error),
-        },
+        "seek" => seek(disk, file, number(second), line),
         "read" => read(alloc, disk, file, number(second), line),
         "turn" => turn(disk, line),
         _ => line.refuse(),
@@ -145,21 +158,29 @@ fn list_names<D: Disk>(alloc: Global, disk: &mut D, at: Lister, line: &mut Line)
     }
 }
 
+fn open_at<D: Disk>(alloc: Global, disk: &mut D, path: &FsPath, part: &str, line: &mut Line) {
+    match disk.open(path, OpenOptions::read(), false) {
+        Ok(file) => call_open(alloc, disk, file, part, line),
+        Err(error) => line.add_value(&error),
+    }
+}
+
+fn list_at<D: Disk>(alloc: Global, disk: &mut D, path: &FsPath, line: &mut Line) {
+    match disk.list(path) {
+        Ok(at) => {
+            list_names(alloc, disk, at, line);
+            disk.end_list(at);
+        }
+        Err(error) => line.add_value(&error),
+    }
+}
+
 // Makes the call of a part at a path.
 fn call_at<D: Disk>(alloc: Global, disk: &mut D, path: &FsPath, part: &str, line: &mut Line) {
-    match part.split(' ').next().unwrap_or("") {
+    match word(part, 0) {
         "meta" => tell_meta(line, disk.meta(path)),
-        "open" => match disk.open(path, OpenOptions::read(), false) {
-            Ok(file) => call_open(alloc, disk, file, part, line),
-            Err(error) => line.add_value(&error),
-        },
-        "list" => match disk.list(path) {
-            Ok(at) => {
-                list_names(alloc, disk, at, line);
-                disk.end_list(at);
-            }
-            Err(error) => line.add_value(&error),
-        },
+        "open" => open_at(alloc, disk, path, part, line),
+        "list" => list_at(alloc, disk, path, line),
         "turn" => turn(disk, line),
         _ => line.refuse(),
     }
@@ -168,21 +189,9 @@ fn call_at<D: Disk>(alloc: Global, disk: &mut D, path: &FsPath, part: &str, line
 
 // Makes the call of a part.
 fn call<D: Disk>(alloc: Global, disk: &mut D, part: &str, line: &mut Line) {
-    match path_of(alloc, part.split(' ').nth(1).unwrap_or("")) {
+    match path_of(alloc, word(part, 1)) {
         Some(path) => call_at(alloc, disk, &path, part, line),
         None => line.refuse(),
-    }
-}
-
-/// Adds what a disk answers that may fail.
-pub fn calls(alloc: Global, line: &mut Line, row: &str) {
-    match MemDisk::new(alloc) {
-        Ok(mut disk) => {
-            call_all(alloc, &mut disk, row, line);
-            line.add_number("asked ", disk.asked());
-            line.add_number(", failed ", disk.faults());
-        }
-        Err(_) => line.refuse(),
     }
 }
 
@@ -194,23 +203,29 @@ fn call_all(alloc: Global, disk: &mut MemDisk, row: &str, line: &mut Line) {
     }
 }
 
-// Sets what a part says of a sure disk, and answers whether it says something.
-fn set_sure(alloc: Global, disk: &mut SureDisk, line: &mut Line, part: &str) -> bool {
-    let done = match part.split(' ').next().unwrap_or("") {
-        "dir" | "file" => set_standing(alloc, disk, part),
-        "batch" => add_batch(alloc, disk, part),
-        _ => return false,
-    };
-    line.need(done);
-    true
+fn tell_counts(line: &mut Line, asked: u64, faults: u64) {
+    line.add_number("asked ", asked);
+    line.add_number(", failed ", faults);
 }
 
-fn add_batch(alloc: Global, disk: &mut SureDisk, part: &str) -> Option<()> {
-    disk.script(batch_of(alloc, part)?).ok()
+fn tell_calls(alloc: Global, disk: &mut MemDisk, row: &str, line: &mut Line) {
+    call_all(alloc, disk, row, line);
+    tell_counts(line, disk.asked(), disk.faults());
 }
 
-fn set_standing(alloc: Global, disk: &mut SureDisk, part: &str) -> Option<()> {
-    add_standing(disk, &standing_of(alloc, part)?).ok()
+/// Adds what a disk answers that may fail.
+pub fn calls(alloc: Global, line: &mut Line, row: &str) {
+    match MemDisk::new(alloc) {
+        Ok(mut disk) => tell_calls(alloc, &mut disk, row, line),
+        Err(_) => line.refuse(),
+    }
+}
+
+fn add_batch(alloc: Global, disk: &mut SureDisk, line: &mut Line, part: &str) {
+    match batch_of(alloc, part) {
+        Some(batch) => line.need(disk.script(batch).ok()),
+        None => line.refuse(),
+    }
 }
 
 fn add_standing(disk: &mut SureDisk, new: &Standing) -> Result<(), NoMemory> {
@@ -223,16 +238,21 @@ fn add_standing(disk: &mut SureDisk, new: &Standing) -> Result<(), NoMemory> {
     }
 }
 
-/// Adds what a sure disk answers.
-pub fn sure_calls(alloc: Global, line: &mut Line, row: &str) {
-    match SureDisk::new(alloc) {
-        Ok(mut disk) => {
-            call_all_sure(alloc, &mut disk, row, line);
-            line.add_number("asked ", disk.asked());
-            line.add_number(", failed ", disk.faults());
-        }
-        Err(_) => line.refuse(),
+fn set_standing(alloc: Global, disk: &mut SureDisk, line: &mut Line, part: &str) {
+    match standing_of(alloc, part) {
+        Some(new) => line.need(add_standing(disk, &new).ok()),
+        None => line.refuse(),
     }
+}
+
+// Sets what a part says of a sure disk, and answers whether it says something.
+fn set_sure(alloc: Global, disk: &mut SureDisk, line: &mut Line, part: &str) -> bool {
+    match word(part, 0) {
+        "dir" | "file" => set_standing(alloc, disk, line, part),
+        "batch" => add_batch(alloc, disk, line, part),
+        _ => return false,
+    }
+    true
 }
 
 fn call_all_sure(alloc: Global, disk: &mut SureDisk, row: &str, line: &mut Line) {
@@ -240,5 +260,18 @@ fn call_all_sure(alloc: Global, disk: &mut SureDisk, row: &str, line: &mut Line)
         if !set_sure(alloc, disk, line, part.trim()) {
             call(alloc, disk, part.trim(), line);
         }
+    }
+}
+
+fn tell_sure_calls(alloc: Global, disk: &mut SureDisk, row: &str, line: &mut Line) {
+    call_all_sure(alloc, disk, row, line);
+    tell_counts(line, disk.asked(), disk.faults());
+}
+
+/// Adds what a sure disk answers.
+pub fn sure_calls(alloc: Global, line: &mut Line, row: &str) {
+    match SureDisk::new(alloc) {
+        Ok(mut disk) => tell_sure_calls(alloc, &mut disk, row, line),
+        Err(_) => line.refuse(),
     }
 }

@@ -19,7 +19,6 @@ mod streams;
 use dav_cache::Owned;
 use dav_disk::MemDisk;
 use dav_handler::{Answer, DavConfig, Forget, LocalFs, Player, Remember, Settings, Step, play};
-use dav_io::NoMemory;
 use dav_rows::Line;
 use dav_scenes::{Room, Scene, scene_of, tell};
 use std::alloc::Global;
@@ -44,13 +43,27 @@ fn player_over<R: Remember + Drop>(
 // Adds the answers to these steps to those that were given, by a player that gave none yet.
 fn play_all<R: Remember>(
     player: &mut Player<MemDisk, R>,
+    line: &mut Line,
     steps: &[Step],
     answers: &mut Vec<Answer>,
-) -> Result<(), NoMemory> {
+) {
     if player.replies() > 0 || steps.len() > STEPS {
-        return Err(NoMemory);
+        line.refuse();
+    } else if play(player, steps, answers).is_err() {
+        line.refuse();
     }
-    play(player, steps, answers)
+}
+
+// Plays these steps, and tells their answers.
+fn tell_played<R: Remember>(
+    alloc: Global,
+    line: &mut Line,
+    player: &mut Player<MemDisk, R>,
+    steps: &[Step],
+) {
+    let mut answers = Vec::new(alloc);
+    play_all(player, line, steps, &mut answers);
+    tell(line, &answers);
 }
 
 // Adds how often a disk was asked, where that is told, and how many of its calls failed.
@@ -60,6 +73,12 @@ fn tell_counts(line: &mut Line, disk: &MemDisk, counted: bool) {
         line.add(", ");
     }
     line.add_number("failed ", disk.faults());
+}
+
+// Tells the counts of a player's disk.
+fn tell_disk<R: Remember + Drop>(line: &mut Line, player: Player<MemDisk, R>, counted: bool) {
+    let (disk, _memory) = player.into_parts();
+    tell_counts(line, &disk, counted);
 }
 
 // Plays a scene to its end, over a store with this memory.
@@ -73,16 +92,11 @@ fn play_over<R: Remember + Drop>(alloc: Global, line: &mut Line, scene: Scene, m
         steps,
         ..
     } = scene;
-    let mut answers = Vec::new(alloc);
     let store = LocalFs::new(disk, memory, false, folds, macos);
     let mut player = player_over(alloc, store, settings);
-    if play_all(&mut player, &steps, &mut answers).is_err() {
-        line.refuse();
-    }
-    tell(line, &answers);
-    let (disk, _memory) = player.into_parts();
+    tell_played(alloc, line, &mut player, &steps);
     // A store whose names fold may find a path in several ways.
-    tell_counts(line, &disk, counted && !folds);
+    tell_disk(line, player, counted && !folds);
 }
 
 // The memory of a room that isn't empty.
@@ -93,14 +107,26 @@ fn memory_of(alloc: Global, room: Room) -> Option<Owned> {
     Owned::new(alloc, room.paths, room.dots).ok()
 }
 
+// Plays a scene to its end, over a store that remembers so much.
+fn played_in(alloc: Global, line: &mut Line, scene: Scene, room: Room) {
+    match memory_of(alloc, room) {
+        Some(memory) => play_over(alloc, line, scene, memory),
+        None => line.refuse(),
+    }
+}
+
 // Plays a scene to its end.
 fn played(alloc: Global, line: &mut Line, scene: Scene) {
     match scene.room {
         None => play_over(alloc, line, scene, Forget),
-        Some(room) => match memory_of(alloc, room) {
-            Some(memory) => play_over(alloc, line, scene, memory),
-            None => line.refuse(),
-        },
+        Some(room) => played_in(alloc, line, scene, room),
+    }
+}
+
+fn play_row(alloc: Global, line: &mut Line, row: &str) {
+    match scene_of(alloc, line, row) {
+        Some(scene) => played(alloc, line, scene),
+        None => line.refuse(),
     }
 }
 
@@ -111,10 +137,7 @@ fn answer(alloc: Global, line: &mut Line, row: &str) {
         "disk" => calls::calls(alloc, line, row),
         "sure" => calls::sure_calls(alloc, line, row),
         "store" => stores::calls(alloc, line, row),
-        _ => match scene_of(alloc, line, row) {
-            Some(scene) => played(alloc, line, scene),
-            None => line.refuse(),
-        },
+        _ => play_row(alloc, line, row),
     }
 }
 

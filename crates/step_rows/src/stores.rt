@@ -25,7 +25,7 @@ use dav_core::{DavMetaData, DavPath, FileTime, FsError, Kind, Member, OpenOption
 use dav_disk::MemDisk;
 use dav_io::{Moment, Text};
 use dav_local::{EntryMeta, LocalFs, LocalFsDirEntry, LocalFsMetaData};
-use dav_rows::Line;
+use dav_rows::{Line, word};
 use dav_scenes::{bytes_of, number, set_disk, tell_bytes, tell_time};
 use dav_store::{
     DavDirEntry, DavFile, DavFileSystem, GuardedFileSystem, ReadDirMeta, file_close, file_metadata,
@@ -62,6 +62,14 @@ fn tell_looked(line: &mut Line, answer: Result<LocalFsMetaData, FsError>) {
     }
 }
 
+fn look(line: &mut Line, store: &mut Store, path: &DavPath) {
+    tell_looked(line, GuardedFileSystem::metadata(store, path, &()));
+}
+
+fn look_at_link(line: &mut Line, store: &mut Store, path: &DavPath) {
+    tell_looked(line, GuardedFileSystem::symlink_metadata(store, path, &()));
+}
+
 fn meta_at(store: &mut Store, path: &DavPath) -> Result<LocalFsMetaData, FsError> {
     DavFileSystem::metadata(store, path)
 }
@@ -73,27 +81,33 @@ fn tell_said_time(line: &mut Line, time: Result<FileTime, FsError>) {
     }
 }
 
+fn tell_times(line: &mut Line, meta: &LocalFsMetaData) {
+    tell_said_time(line, meta.modified());
+    line.add(", ");
+    tell_said_time(line, meta.created());
+    line.add(", ");
+    tell_said_time(line, meta.accessed());
+    line.add(", ");
+    tell_said_time(line, meta.status_changed());
+}
+
 fn times(line: &mut Line, store: &mut Store, path: &DavPath) {
     match meta_at(store, path) {
-        Ok(meta) => {
-            tell_said_time(line, meta.modified());
-            line.add(", ");
-            tell_said_time(line, meta.created());
-            line.add(", ");
-            tell_said_time(line, meta.accessed());
-            line.add(", ");
-            tell_said_time(line, meta.status_changed());
-        }
+        Ok(meta) => tell_times(line, &meta),
         Err(error) => line.add_value(&error),
     }
 }
 
 fn tag(alloc: Global, line: &mut Line, store: &mut Store, path: &DavPath, tag: &str) {
     match meta_at(store, path) {
-        Ok(meta) => match meta.executable() {
-            Ok(runs) => tell_tag(alloc, line, &meta, tag, runs),
-            Err(error) => line.add_value(&error),
-        },
+        Ok(meta) => tell_run(alloc, line, &meta, tag),
+        Err(error) => line.add_value(&error),
+    }
+}
+
+fn tell_run(alloc: Global, line: &mut Line, meta: &LocalFsMetaData, tag: &str) {
+    match meta.executable() {
+        Ok(runs) => tell_tag(alloc, line, meta, tag, runs),
         Err(error) => line.add_value(&error),
     }
 }
@@ -125,20 +139,24 @@ fn tell_home(alloc: Global, line: &mut Line, meta: &LocalFsMetaData, place: &str
     }
 }
 
-// An entry of a listing. Its name is that of a path's last name, so it is plain.
 fn entry(line: &mut Line, store: &mut Store, path: &DavPath) {
     match meta_at(store, path) {
-        Ok(meta) => match path.names().as_slice().last() {
-            Some(name) => match name.try_clone() {
-                Ok(name) => {
-                    let entry = LocalFsDirEntry::new(name, EntryMeta::Read(Ok(meta)));
-                    tell_entry(line, DavFileSystem::disk(store), &entry);
-                }
-                Err(_) => line.refuse(),
-            },
-            None => line.refuse(),
-        },
+        Ok(meta) => entry_of(line, DavFileSystem::disk(store), path, meta),
         Err(error) => line.add_value(&error),
+    }
+}
+
+// An entry of a listing. Its name is that of a path's last name, so it is plain.
+fn entry_of(line: &mut Line, disk: &mut MemDisk, path: &DavPath, meta: LocalFsMetaData) {
+    match path.names().as_slice().last() {
+        Some(name) => match name.try_clone() {
+            Ok(name) => {
+                let entry = LocalFsDirEntry::new(name, EntryMeta::Read(Ok(meta)));
+                tell_entry(line, disk, &entry);
+            }
+            Err(_) => line.refuse(),
+        },
+        None => line.refuse(),
     }
 }
 
@@ -200,6 +218,32 @@ fn both<A: Drop, B: Drop>(
     }
 }
 
+fn length_of(meta: Result<LocalFsMetaData, FsError>) -> Result<u64, FsError> {
+    match meta {
+        Ok(meta) => Ok(meta.len()),
+        Err(error) => Err(error),
+    }
+}
+
+// Where a file was sought, how long it is, and how many bytes were read of it.
+fn tell_read(
+    line: &mut Line,
+    sought: Result<u64, FsError>,
+    len: Result<u64, FsError>,
+    read: Result<usize, FsError>,
+    into: &[u8],
+) {
+    match both(both(sought, len), read) {
+        Ok(((at, len), count)) => {
+            line.add_number("at ", at);
+            line.add_number(" of ", len);
+            line.add(": ");
+            tell_bytes(line, into.get(..count).unwrap_or(b"?"));
+        }
+        Err(error) => line.add_value(&error),
+    }
+}
+
 fn read(line: &mut Line, store: &mut Store, path: &DavPath, place: u64) {
     match GuardedFileSystem::open(store, path, OpenOptions::read(), &()) {
         Ok(mut file) => {
@@ -208,16 +252,7 @@ fn read(line: &mut Line, store: &mut Store, path: &DavPath, place: u64) {
             let read = file_read::<Store, ()>(store, &mut file, &mut into);
             let meta = file_metadata::<Store, ()>(store, &mut file);
             file_close::<Store, ()>(store, file);
-            let len = meta.map(|meta| meta.len());
-            match both(both(sought, len), read) {
-                Ok(((at, len), count)) => {
-                    line.add_number("at ", at);
-                    line.add_number(" of ", len);
-                    line.add(": ");
-                    tell_bytes(line, into.get(..count).unwrap_or(b"?"));
-                }
-                Err(error) => line.add_value(&error),
-            }
+            tell_read(line, sought, length_of(meta), read, &into);
         }
         Err(error) => line.add_value(&error),
     }
@@ -233,24 +268,28 @@ fn give(alloc: Global, line: &mut Line, store: &mut Store, path: &DavPath, count
             let nothing = file.write_bytes(disk, b"");
             let flushed = file.flush(disk);
             file.close(disk);
-            tell_given(line, both(both(nothing, flushed), both(bytes, address)));
+            tell_given(line, nothing, flushed, bytes, address);
         }
         Err(error) => line.add_value(&error),
     }
 }
 
-fn tell_given(line: &mut Line, given: Result<(((), ()), (Bytes, Option<Text>)), FsError>) {
-    match given {
-        Ok((_, (bytes, address))) => {
-            tell_bytes(line, bytes.as_slice());
-            line.add(if address.is_some() {
-                " elsewhere"
-            } else {
-                " here"
-            });
-        }
+fn tell_given(
+    line: &mut Line,
+    nothing: Result<(), FsError>,
+    flushed: Result<(), FsError>,
+    bytes: Result<Bytes, FsError>,
+    address: Result<Option<Text>, FsError>,
+) {
+    match both(both(nothing, flushed), both(bytes, address)) {
+        Ok((_, (bytes, address))) => tell_sent(line, &bytes, address.is_some()),
         Err(error) => line.add_value(&error),
     }
+}
+
+fn tell_sent(line: &mut Line, bytes: &Bytes, elsewhere: bool) {
+    tell_bytes(line, bytes.as_slice());
+    line.add(if elsewhere { " elsewhere" } else { " here" });
 }
 
 fn tell_done(line: &mut Line, answer: Result<(), FsError>) {
@@ -260,21 +299,37 @@ fn tell_done(line: &mut Line, answer: Result<(), FsError>) {
     }
 }
 
-fn write(alloc: Global, line: &mut Line, store: &mut Store, path: &DavPath, bytes: &[u8]) {
+fn tell_written(line: &mut Line, once: Result<(), FsError>, again: Result<(), FsError>) {
+    tell_done(line, once);
+    line.add(", ");
+    tell_done(line, again);
+}
+
+// Writes bytes as a slice, and then as a buffer that has the same.
+fn write_twice(line: &mut Line, store: &mut Store, path: &DavPath, bytes: &[u8], buffer: Bytes) {
     match DavFileSystem::open(store, path, OpenOptions::read()) {
         Ok(mut file) => {
             let disk = DavFileSystem::disk(store);
             let once = file.write_bytes(disk, bytes);
-            let again = match Bytes::copy_from_slice(alloc, bytes) {
-                Ok(buffer) => file.write_buf(disk, buffer),
-                Err(_) => Err(FsError::NoMemory),
-            };
+            let again = file.write_buf(disk, buffer);
             file.close(disk);
-            tell_done(line, once);
-            line.add(", ");
-            tell_done(line, again);
+            tell_written(line, once, again);
         }
         Err(error) => line.add_value(&error),
+    }
+}
+
+fn write_bytes(alloc: Global, line: &mut Line, store: &mut Store, path: &DavPath, bytes: &[u8]) {
+    match Bytes::copy_from_slice(alloc, bytes) {
+        Ok(buffer) => write_twice(line, store, path, bytes, buffer),
+        Err(_) => line.refuse(),
+    }
+}
+
+fn write(alloc: Global, line: &mut Line, store: &mut Store, path: &DavPath, cell: &str) {
+    match bytes_of(alloc, cell) {
+        Ok(bytes) => write_bytes(alloc, line, store, path, &bytes),
+        Err(_) => line.refuse(),
     }
 }
 
@@ -326,16 +381,27 @@ fn wanted(word: &str) -> ReadDirMeta {
     }
 }
 
-fn list(alloc: Global, line: &mut Line, store: &mut Store, path: &DavPath, word: &str) {
+// Adds the entries of a listing, to its end.
+fn add_entries(
+    line: &mut Line,
+    store: &mut Store,
+    path: &DavPath,
+    word: &str,
+    entries: &mut Vec<LocalFsDirEntry>,
+) {
     match DavFileSystem::read_dir(store, path, wanted(word)) {
         Ok(mut dir) => {
-            let mut entries = Vec::new(alloc);
-            list_on(store, &mut dir, &mut entries, line);
+            list_on(store, &mut dir, entries, line);
             DavFileSystem::end_dir(store, dir);
-            tell_entries(line, DavFileSystem::disk(store), &entries);
         }
         Err(error) => line.add_value(&error),
     }
+}
+
+fn list(alloc: Global, line: &mut Line, store: &mut Store, path: &DavPath, word: &str) {
+    let mut entries = Vec::new(alloc);
+    add_entries(line, store, path, word, &mut entries);
+    tell_entries(line, DavFileSystem::disk(store), &entries);
 }
 
 fn tell_entries(line: &mut Line, disk: &mut MemDisk, entries: &[LocalFsDirEntry]) {
@@ -344,50 +410,55 @@ fn tell_entries(line: &mut Line, disk: &mut MemDisk, entries: &[LocalFsDirEntry]
     }
 }
 
-fn members(alloc: Global, line: &mut Line, store: &mut Store, path: &DavPath) {
-    match read_members(alloc, store, path, &()) {
-        Ok(members) => {
-            line.add_number("", members.len() as u64);
-            tell_members(line, &members);
-        }
-        Err(error) => line.add_value(&error),
+fn kind_of(kind: Kind) -> &'static str {
+    match kind {
+        Kind::Dir => " dir",
+        Kind::File => " file",
+        Kind::Link => " link",
+    }
+}
+
+fn tell_listed(line: &mut Line, member: &Member) {
+    line.tell(", ", member.name.as_str());
+    line.add(kind_of(member.kind));
+    line.add_number(" ", member.len);
+    line.add(" ");
+    match member.modified {
+        Some(time) => tell_time(line, time),
+        None => line.add("none"),
     }
 }
 
 fn tell_members(line: &mut Line, members: &[Member]) {
+    line.add_number("", members.len() as u64);
     for member in members {
-        line.add(", ");
-        line.add(member.name.as_str());
-        line.add(match member.kind {
-            Kind::Dir => " dir",
-            Kind::File => " file",
-            Kind::Link => " link",
-        });
-        line.add_number(" ", member.len);
-        line.add(" ");
-        match member.modified {
-            Some(time) => tell_time(line, time),
-            None => line.add("none"),
-        }
+        tell_listed(line, member);
     }
+}
+
+fn members(alloc: Global, line: &mut Line, store: &mut Store, path: &DavPath) {
+    match read_members(alloc, store, path, &()) {
+        Ok(members) => tell_members(line, &members),
+        Err(error) => line.add_value(&error),
+    }
+}
+
+fn tell_change(line: &mut Line, answer: Result<(), FsError>) {
+    tell_done(line, answer);
+    line.add(", ");
 }
 
 // What the calls answer that change what stands.
-fn changes(store: &mut Store, path: &DavPath) -> [Result<(), FsError>; 5] {
-    [
-        GuardedFileSystem::create_dir(store, path, &()),
-        GuardedFileSystem::remove_dir(store, path, &()),
-        GuardedFileSystem::remove_file(store, path, &()),
-        GuardedFileSystem::rename(store, path, path, &()),
-        GuardedFileSystem::copy(store, path, path, &()),
-    ]
+fn change(line: &mut Line, store: &mut Store, path: &DavPath) {
+    tell_change(line, GuardedFileSystem::create_dir(store, path, &()));
+    tell_change(line, GuardedFileSystem::remove_dir(store, path, &()));
+    tell_change(line, GuardedFileSystem::remove_file(store, path, &()));
+    tell_change(line, GuardedFileSystem::rename(store, path, path, &()));
+    tell_change(line, GuardedFileSystem::copy(store, path, path, &()));
 }
 
 fn rest(line: &mut Line, store: &mut Store, path: &DavPath) {
-    for answer in changes(store, path) {
-        tell_done(line, answer);
-        line.add(", ");
-    }
+    change(line, store, path);
     GuardedFileSystem::<()>::set_now(store, Moment(5));
     line.add_whether("void ", GuardedFileSystem::<()>::is_void(store));
     line.add_whether(", folds ", GuardedFileSystem::<()>::folds(store));
@@ -395,10 +466,10 @@ fn rest(line: &mut Line, store: &mut Store, path: &DavPath) {
 
 // Makes the call of a part at a path.
 fn call_at(alloc: Global, line: &mut Line, store: &mut Store, path: &DavPath, part: &str) {
-    let third = part.split(' ').nth(2).unwrap_or("");
-    match part.split(' ').next().unwrap_or("") {
-        "look" => tell_looked(line, GuardedFileSystem::metadata(store, path, &())),
-        "link" => tell_looked(line, GuardedFileSystem::symlink_metadata(store, path, &())),
+    let third = word(part, 2);
+    match word(part, 0) {
+        "look" => look(line, store, path),
+        "link" => look_at_link(line, store, path),
         "times" => times(line, store, path),
         "tag" => tag(alloc, line, store, path, third),
         "home" => home(alloc, line, store, path, third),
@@ -406,10 +477,7 @@ fn call_at(alloc: Global, line: &mut Line, store: &mut Store, path: &DavPath, pa
         "open" => open(line, store, path, part),
         "read" => read(line, store, path, number(third)),
         "give" => give(alloc, line, store, path, number(third)),
-        "write" => match bytes_of(alloc, third) {
-            Ok(bytes) => write(alloc, line, store, path, &bytes),
-            Err(_) => line.refuse(),
-        },
+        "write" => write(alloc, line, store, path, third),
         "list" => list(alloc, line, store, path, third),
         "members" => members(alloc, line, store, path),
         "rest" => rest(line, store, path),
@@ -419,7 +487,7 @@ fn call_at(alloc: Global, line: &mut Line, store: &mut Store, path: &DavPath, pa
 
 // Makes the call of a part.
 fn call(alloc: Global, line: &mut Line, store: &mut Store, part: &str) {
-    match DavPath::new(alloc, part.split(' ').nth(1).unwrap_or("")) {
+    match DavPath::new(alloc, word(part, 1)) {
         Ok(path) => call_at(alloc, line, store, &path, part),
         Err(error) => line.add_value(&error),
     }
@@ -434,15 +502,22 @@ fn call_all(alloc: Global, line: &mut Line, store: &mut Store, row: &str) {
     }
 }
 
+fn tell_counts(line: &mut Line, disk: &MemDisk) {
+    line.add_number("asked ", disk.asked());
+    line.add_number(", failed ", disk.faults());
+}
+
+fn tell_calls(alloc: Global, line: &mut Line, store: &mut Store, row: &str) {
+    call_all(alloc, line, store, row);
+    tell_counts(line, DavFileSystem::disk(store));
+}
+
 /// Adds what a store answers.
 pub fn calls(alloc: Global, line: &mut Line, row: &str) {
     match MemDisk::new(alloc) {
         Ok(disk) => {
             let mut store = LocalFs::new(disk, Forget, false, false, false);
-            call_all(alloc, line, &mut store, row);
-            let (disk, _) = store.into_parts();
-            line.add_number("asked ", disk.asked());
-            line.add_number(", failed ", disk.faults());
+            tell_calls(alloc, line, &mut store, row);
         }
         Err(_) => line.refuse(),
     }

@@ -76,6 +76,17 @@ fn tell_all(line: &mut Line, all: &Result<Octets, BodyFault>) {
     }
 }
 
+// Tells the status of an answer, and all that its body gives.
+fn tell_body(alloc: Global, line: &mut Line, disk: MemDisk, body: GetBody<LocalFsFile>, status: u16)
+    requires { IsHeld local_file (mem_state disk) body }
+{
+    let (all, over) = joined(alloc, disk, body);
+    line.add_number("", u64::from(status));
+    line.add(" | ");
+    tell_all(line, &all);
+    line.add(if over { " | over" } else { " | goes on" });
+}
+
 fn tell_at(
     alloc: Global,
     line: &mut Line,
@@ -86,11 +97,7 @@ fn tell_at(
     match body_of(alloc, scene.disk, &scene.settings, path, request) {
         Some(given) => {
             let (disk, body, status) = given;
-            let (all, over) = joined(alloc, disk, body);
-            line.add_number("", u64::from(status));
-            line.add(" | ");
-            tell_all(line, &all);
-            line.add(if over { " | over" } else { " | goes on" });
+            tell_body(alloc, line, disk, body, status);
         }
         None => line.refuse(),
     }
