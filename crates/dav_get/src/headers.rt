@@ -8,7 +8,7 @@ ghost use Rattle.dav_core.specs.Info.{is_in_years, natural};
 ghost use Rattle.dav_model.specs.Head.{field, field_where, quoted_where, sent_fields as the_sent_fields, sent_length as the_sent_length, sent_range as the_sent_range, sent_type as the_sent_type, span_text, redirected_fields as the_redirected_fields, well_known, IsDate};
 
 use dav_core::{DavMetaData, FileTime};
-use dav_io::{Field, FieldName, Fields, NoMemory, Octets, Text, add_field};
+use dav_io::{Field, FieldName, FieldValue, Fields, NoMemory, Octets, Text, add_field};
 use dav_model::{Sent, Slice};
 use httpdate::HttpDate;
 use itoa::Buffer;
@@ -28,6 +28,7 @@ fn push(fields: &mut Vec<Field>, name: FieldName, value: Octets) -> Result<(), N
     ensures { OnOk result (fields.new.items ≡ fields.old.items ++ field (spelled name) value ∷ []) }
 {
     let name = Text::known(name);
+    let value = FieldValue::new(value);
     fields.push(Field { name, value })?;
     Ok(())
 }

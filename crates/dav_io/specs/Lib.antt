@@ -5,3 +5,4 @@ pub mod Sure
 pub mod Appending
 pub mod Schedules
 pub mod Texts
+pub mod Values

@@ -1,12 +1,12 @@
 ghost use Rattle.std.specs.Prelude.{◌≡◌, ◌++◌, ◌∷◌, [], IfOk, OnOk};
 
-use crate::{Items, NoMemory, Octets, Text, TryClone};
+use crate::{FieldValue, Items, NoMemory, Text, TryClone};
 
 /// A header field: its name in lower case, and its value.
 #[derive(Drop)]
 pub struct Field {
     pub name: Text,
-    pub value: Octets,
+    pub value: FieldValue,
 }
 
 impl TryClone for Field {
@@ -23,7 +23,7 @@ impl TryClone for Field {
 pub fn add_field(fields: &mut Vec<Field>, name: Text, value: &[u8]) -> Result<(), NoMemory>
     ensures { OnOk result (fields.new.items ≡ fields.old.items ++ record { name = name; value = value.now } ∷ []) }
 {
-    let value = Octets::new(Vec::from_slice(*fields.allocator(), value)?);
+    let value = FieldValue::copy(*fields.allocator(), value)?;
     fields.push(Field { name, value })?;
     Ok(())
 }

@@ -4,7 +4,7 @@ ghost use Rattle.dav_methods.specs.Lines.{made, silent as the_silent, unless};
 ghost use Rattle.dav_walks.specs.Removing.{line_of};
 
 use dav_core::{DavError, FsError};
-use dav_io::{Field, FieldName, Items, NoMemory, Octets, Text};
+use dav_io::{FieldName, Items, NoMemory, Text, add_field};
 use dav_model::Outcome;
 use std::alloc::Global;
 
@@ -12,10 +12,8 @@ use std::alloc::Global;
 pub fn created(alloc: Global) -> Result<Outcome, NoMemory>
     ensures { IfOk result (λ outcome. outcome ≡ made) }
 {
-    let name = Text::known(FieldName::ContentLength);
-    let value = Octets::new(Vec::from_slice(alloc, b"0")?);
     let mut fields = Vec::new(alloc);
-    fields.push(Field { name, value })?;
+    add_field(&mut fields, Text::known(FieldName::ContentLength), b"0")?;
     Ok(Outcome {
         status: 201,
         fields: Items::new(fields),

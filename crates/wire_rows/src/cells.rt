@@ -1,5 +1,5 @@
 //! Texts of rows.
-use dav_io::{Field, NoMemory, Octets, Text};
+use dav_io::{Field, FieldValue, NoMemory, Octets, Text};
 use dav_rows::Line;
 use percent_encoding::{CONTROLS, percent_decode};
 use std::alloc::Global;
@@ -40,7 +40,7 @@ pub fn joined_of(alloc: Global, row: &str, before: usize) -> Result<Octets, NoMe
 
 fn field_of(alloc: Global, cell: &str) -> Result<Field, NoMemory> {
     let (name, value) = cell.split_once(':').unwrap_or((cell, ""));
-    let value = Octets::new(bytes_of(alloc, value)?);
+    let value = FieldValue::copy(alloc, bytes_of(alloc, value)?.as_slice())?;
     let name = Text::copy(alloc, name)?;
     Ok(Field { name, value })
 }
