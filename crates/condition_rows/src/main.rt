@@ -17,8 +17,7 @@ use dav_core::{DavMethod, ETag, FileTime, Kind, Meta, dav_method};
 use dav_get::slices;
 use dav_io::Octets;
 use dav_model::{Ranges, Slice};
-use dav_rows::{Line, bytes_of, cell};
-use http::header::{HeaderName, HeaderValue};
+use dav_rows::{Line, add_field, bytes_of, cell};
 use http::{HeaderMap, Method};
 use std::alloc::Global;
 use std::io;
@@ -62,38 +61,10 @@ fn tag_of(alloc: Global, line: &mut Line, cell: &str) -> Option<ETag> {
     }
 }
 
-fn name_of(alloc: Global, text: &str) -> Option<HeaderName> {
-    HeaderName::from_bytes(alloc, text.as_bytes()).ok()
-}
-
-fn value_of(alloc: Global, text: &str) -> Option<HeaderValue> {
-    let value = bytes_of(alloc, text).ok()?;
-    HeaderValue::from_bytes(alloc, value.as_slice()).ok()
-}
-
-fn add_named(alloc: Global, fields: &mut HeaderMap, line: &mut Line, name: HeaderName, text: &str) {
-    match value_of(alloc, text) {
-        Some(value) => {
-            if fields.append(name, value).is_err() {
-                line.refuse();
-            }
-        }
-        None => line.refuse(),
-    }
-}
-
-fn add_field(alloc: Global, fields: &mut HeaderMap, line: &mut Line, cell: &str) {
-    let (name, text) = cell.split_once(':').unwrap_or((cell, ""));
-    match name_of(alloc, name) {
-        Some(name) => add_named(alloc, fields, line, name, text),
-        None => line.refuse(),
-    }
-}
-
 // Adds the fields behind the first three cells.
 fn add_fields(alloc: Global, fields: &mut HeaderMap, line: &mut Line, row: &str) {
     for cell in row.split('|').skip(3) {
-        add_field(alloc, fields, line, cell);
+        add_field(alloc, line, fields, cell);
     }
 }
 

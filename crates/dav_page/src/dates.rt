@@ -1,5 +1,6 @@
 // Dates and sizes as pages show them.
-ghost use Rattle.std.specs.Prelude.{◌≡◌, ◌<◌, ◌≤◌, ◌≤ℤ◌, IfOk, pos};
+ghost use Rattle.std.specs.Prelude.{◌≡◌, ◌+◌, ◌<◌, ◌≤◌, ◌≤ℤ◌, ◌++◌, IfOk, OnOk, codes, pos, string_bytes};
+ghost use Rattle.httpdate.specs.Text.{four_digits, two_digits};
 ghost use Rattle.jiff_core.specs.Calendar.{IsCivilDate, days_from_civil};
 ghost use Rattle.dav_core.specs.Info.{known};
 ghost use Rattle.dav_page.specs.Listed.{IsDateOf, IsMinute, size_of};
@@ -33,15 +34,52 @@ fn civil_of(day: u32) -> (u16, u8, u8)
     (natural(date.year), date.month, date.day)
 }
 
+// The character of a digit.
+fn digit(number: u8) -> char
+    requires { number < 10 }
+    ensures { result ≡ 48 + number }
+{
+    (b'0' + number) as char
+}
+
+// Appends a number in two digits.
+fn push_two(text: &mut String, number: u8) -> Result<(), NoMemory>
+    requires { number < 100 }
+    ensures { OnOk result (string_bytes text.new ≡ string_bytes text.old ++ two_digits number) }
+{
+    text.push(digit(number / 10))?;
+    text.push(digit(number % 10))?;
+    Ok(())
+}
+
+// Appends the day: `YYYY-MM-DD`.
+fn push_day(text: &mut String, year: u16, month: u8, day: u8) -> Result<(), NoMemory>
+    requires year { year < 10000 }
+    requires month { month < 100 }
+    requires day { day < 100 }
+    ensures { OnOk result (string_bytes text.new ≡ string_bytes text.old ++ (four_digits year ++ (codes "-"
+        ++ (two_digits month ++ (codes "-" ++ two_digits day))))) }
+{
+    push_two(text, (year / 100) as u8)?;
+    push_two(text, (year % 100) as u8)?;
+    text.push('-')?;
+    push_two(text, month)?;
+    text.push('-')?;
+    push_two(text, day)
+}
+
 // The minute of a second since 1970, up to the end of the year 9999, in UTC.
 fn minute_text(alloc: Global, secs: u64) -> Result<Text, NoMemory>
     requires { secs < 253_402_300_800 }
     ensures { IfOk result (IsMinute secs) }
 {
     let (year, month, day) = civil_of((secs / 86_400) as u32);
-    let hour = secs % 86_400 / 3_600;
-    let minute = secs % 3_600 / 60;
-    let text = format!(in alloc; "{year:04}-{month:02}-{day:02} {hour:02}:{minute:02}")?;
+    let mut text = String::with_capacity(alloc, 16)?;
+    push_day(&mut text, year, month, day)?;
+    text.push(' ')?;
+    push_two(&mut text, (secs % 86_400 / 3_600) as u8)?;
+    text.push(':')?;
+    push_two(&mut text, (secs % 3_600 / 60) as u8)?;
     Ok(Text::new(text))
 }
 

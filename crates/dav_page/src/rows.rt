@@ -59,15 +59,34 @@ fn shown_name(alloc: Global, member: &Member) -> Result<Text, NoMemory>
     }
 }
 
-// The row of these texts.
+// So many bytes has a row beside its four texts.
+const BESIDE_TEXTS: usize = 91;
+
+// How many bytes the row of these texts has.
+fn row_len(cut: RowCut<'_>) -> usize {
+    BESIDE_TEXTS
+        .saturating_add(cut.link.len())
+        .saturating_add(cut.name.len())
+        .saturating_add(cut.date.len())
+        .saturating_add(cut.size.len())
+}
+
+// The row of these texts. Its memory is taken at once.
 fn row_of(alloc: Global, cut: RowCut<'_>) -> Result<Text, NoMemory>
     ensures value { IfOk result (λ text. text ≡ form.row_text (row_texts cut.entry)) }
     ensures utf8 { IfOk result IsUtf8 }
 {
-    let text = Text::new(format!(in alloc;
-        "<tr><td><a href=\"{}\">{}</a></td><td class=\"mono\">{}</td><td class=\"mono\" align=\"right\">{}</td></tr>",
-        cut.link, cut.name, cut.date, cut.size
-    )?);
+    let mut text = String::with_capacity(alloc, row_len(cut))?;
+    text.push_str("<tr><td><a href=\"")?;
+    text.push_str(cut.link)?;
+    text.push_str("\">")?;
+    text.push_str(cut.name)?;
+    text.push_str("</a></td><td class=\"mono\">")?;
+    text.push_str(cut.date)?;
+    text.push_str("</td><td class=\"mono\" align=\"right\">")?;
+    text.push_str(cut.size)?;
+    text.push_str("</td></tr>")?;
+    let text = Text::new(text);
     let _utf8 = text.as_str();
     Ok(text)
 }

@@ -11,8 +11,7 @@ use crate::cells::{bytes_of, moment_of, number, path_of};
 use dav_core::{Change, FsPath};
 use dav_handler::Step;
 use dav_io::{Moment, Octets};
-use dav_rows::{Line, word};
-use http::header::{HeaderName, HeaderValue};
+use dav_rows::{Line, add_value, word};
 use http::{HeaderMap, Method, Request, Uri};
 use std::alloc::Global;
 
@@ -81,31 +80,11 @@ fn add_changes(alloc: Global, batch: &mut Vec<Change>, part: &str) -> Option<()>
     Some(())
 }
 
-fn value_of(alloc: Global, text: &str) -> Option<HeaderValue> {
-    let value = bytes_of(alloc, text).ok()?;
-    HeaderValue::from_bytes(alloc, value.as_slice()).ok()
-}
-
-fn name_of(alloc: Global, text: &str) -> Option<HeaderName> {
-    HeaderName::from_bytes(alloc, text.as_bytes()).ok()
-}
-
-fn add_named(alloc: Global, fields: &mut HeaderMap, line: &mut Line, name: HeaderName, text: &str) {
-    match value_of(alloc, text) {
-        Some(value) => {
-            if fields.append(name, value).is_err() {
-                line.refuse();
-            }
-        }
-        None => line.refuse(),
-    }
-}
-
-fn add_field(alloc: Global, fields: &mut HeaderMap, line: &mut Line, word: &str) {
+fn add_field(alloc: Global, line: &mut Line, fields: &mut HeaderMap, word: &str) {
     let (name, text) = word.split_once(':').unwrap_or((word, ""));
-    match name_of(alloc, name) {
-        Some(name) => add_named(alloc, fields, line, name, text),
-        None => line.refuse(),
+    match bytes_of(alloc, text) {
+        Ok(value) => add_value(alloc, line, fields, name, value.as_slice()),
+        Err(_) => line.refuse(),
     }
 }
 
@@ -113,7 +92,7 @@ fn add_field(alloc: Global, fields: &mut HeaderMap, line: &mut Line, word: &str)
 fn add_fields(alloc: Global, fields: &mut HeaderMap, line: &mut Line, part: &str) {
     for word in part.split(' ').skip(2) {
         if !word.starts_with('=') {
-            add_field(alloc, fields, line, word);
+            add_field(alloc, line, fields, word);
         }
     }
 }

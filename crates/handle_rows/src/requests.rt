@@ -2,36 +2,13 @@
 //! many bytes in pieces of at most 30,000; `!CALL` lets the reader fail at that call.
 //! What isn't understood, or is refused memory, refuses the line, and is left out.
 use crate::readers::Pieces;
-use dav_rows::{Line, word};
-use http::header::{HeaderName, HeaderValue};
+use dav_rows::{Line, add_value, word};
 use http::{HeaderMap, Method, Request, Uri};
 use std::alloc::Global;
 
-fn append(line: &mut Line, fields: &mut HeaderMap, name: HeaderName, value: HeaderValue) {
-    if fields.append(name, value).is_err() {
-        line.refuse();
-    }
-}
-
-fn add_value(
-    alloc: Global,
-    line: &mut Line,
-    fields: &mut HeaderMap,
-    name: HeaderName,
-    value: &str,
-) {
-    match HeaderValue::from_bytes(alloc, value.as_bytes()) {
-        Ok(value) => append(line, fields, name, value),
-        Err(_) => line.refuse(),
-    }
-}
-
 fn add_field(alloc: Global, line: &mut Line, fields: &mut HeaderMap, word: &str) {
     let (name, value) = word.split_once(':').unwrap_or((word, ""));
-    match HeaderName::from_bytes(alloc, name.as_bytes()) {
-        Ok(name) => add_value(alloc, line, fields, name, value),
-        Err(_) => line.refuse(),
-    }
+    add_value(alloc, line, fields, name, value.as_bytes());
 }
 
 fn add_fields(alloc: Global, line: &mut Line, fields: &mut HeaderMap, part: &str) {

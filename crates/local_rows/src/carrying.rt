@@ -5,46 +5,11 @@ use dav_disk::MemDisk;
 use dav_local::LocalFs;
 use dav_methods::{copy, delete, move_to};
 use dav_model::Outcome;
-use dav_rows::{Line, bytes_of, word};
+use dav_rows::{Line, add_field, word};
 use http::HeaderMap;
-use http::header::{HeaderName, HeaderValue};
 use std::alloc::Global;
 
 type Store = LocalFs<MemDisk, Owned>;
-
-fn value_of(alloc: Global, cell: &str) -> Option<HeaderValue> {
-    match bytes_of(alloc, cell) {
-        Ok(bytes) => HeaderValue::from_bytes(alloc, bytes.as_slice()).ok(),
-        Err(_) => None,
-    }
-}
-
-fn append(line: &mut Line, fields: &mut HeaderMap, name: HeaderName, value: HeaderValue) {
-    if fields.append(name, value).is_err() {
-        line.refuse();
-    }
-}
-
-fn add_value(
-    alloc: Global,
-    line: &mut Line,
-    fields: &mut HeaderMap,
-    name: &str,
-    value: HeaderValue,
-) {
-    match HeaderName::from_bytes(alloc, name.as_bytes()) {
-        Ok(name) => append(line, fields, name, value),
-        Err(_) => line.refuse(),
-    }
-}
-
-fn add_field(alloc: Global, line: &mut Line, fields: &mut HeaderMap, word: &str) {
-    let (name, value) = word.split_once(':').unwrap_or((word, ""));
-    match value_of(alloc, value) {
-        Some(value) => add_value(alloc, line, fields, name, value),
-        None => line.refuse(),
-    }
-}
 
 // Adds the fields of a part.
 fn add_fields(alloc: Global, line: &mut Line, fields: &mut HeaderMap, part: &str) {

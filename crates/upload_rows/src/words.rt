@@ -2,9 +2,8 @@
 use crate::reading::Reading;
 use crate::steps::Call;
 use dav_core::DavPath;
-use dav_rows::{Line, bytes_of, word};
+use dav_rows::{Line, add_field, word};
 use http::HeaderMap;
-use http::header::{HeaderName, HeaderValue};
 use std::alloc::Global;
 
 /// A part that makes a call: of the upload of a slot, the first or the second, of the reader, or another.
@@ -44,38 +43,10 @@ impl CallWords {
     }
 }
 
-fn name_of(alloc: Global, text: &str) -> Option<HeaderName> {
-    HeaderName::from_bytes(alloc, text.as_bytes()).ok()
-}
-
-fn value_of(alloc: Global, text: &str) -> Option<HeaderValue> {
-    let value = bytes_of(alloc, text).ok()?;
-    HeaderValue::from_bytes(alloc, value.as_slice()).ok()
-}
-
-fn add_named(alloc: Global, fields: &mut HeaderMap, line: &mut Line, name: HeaderName, text: &str) {
-    match value_of(alloc, text) {
-        Some(value) => {
-            if fields.append(name, value).is_err() {
-                line.refuse();
-            }
-        }
-        None => line.refuse(),
-    }
-}
-
-fn add_field(alloc: Global, fields: &mut HeaderMap, line: &mut Line, word: &str) {
-    let (name, text) = word.split_once(':').unwrap_or((word, ""));
-    match name_of(alloc, name) {
-        Some(name) => add_named(alloc, fields, line, name, text),
-        None => line.refuse(),
-    }
-}
-
 // Adds the fields behind so many words.
 fn add_fields(alloc: Global, fields: &mut HeaderMap, line: &mut Line, words: &str, before: usize) {
     for field in words.split(' ').skip(before) {
-        add_field(alloc, fields, line, field);
+        add_field(alloc, line, fields, field);
     }
 }
 

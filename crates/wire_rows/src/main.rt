@@ -34,6 +34,7 @@ mod messages;
 mod outside;
 mod requests;
 mod sending;
+mod server;
 
 use cells::{fields_of, show_ends};
 use dav_io::Field;

@@ -1,9 +1,10 @@
 //! Requests of an input with their bodies, one after the other. Nothing is given to the sink.
 use crate::cells::show_ends;
 use crate::requests::{Seen, error_word, next, show_target, source_of};
+use crate::server::Server;
 use dav_io::{MemSink, MemSource, Octets};
 use dav_rows::Line;
-use dav_wire::{Announced, BodyRead, Flaw, Input, Output, ReadError, announced_by, read_body};
+use dav_wire::{Announced, BodyRead, Flaw, ReadError, announced_by, read_body};
 use http::Request;
 use std::alloc::Global;
 
@@ -50,12 +51,15 @@ fn found_behind(read: Result<BodyRead, ReadError>) -> Behind {
 fn next_body(
     alloc: Global,
     line: &mut Line,
-    input: &mut Input,
+    server: &mut Server,
     source: &mut MemSource,
-    output: &mut Output,
     sink: &mut MemSink,
-    request: &mut Request<Octets>,
 ) -> Behind {
+    let Server {
+        input,
+        output,
+        request,
+    } = server;
     let seen = next(alloc, input, source, request);
     match announced(line, seen, request) {
         Ok(announced) => found_behind(read_body(alloc, announced, input, source, output, sink)),
@@ -67,13 +71,11 @@ fn next_body(
 fn show_next(
     alloc: Global,
     line: &mut Line,
-    input: &mut Input,
+    server: &mut Server,
     source: &mut MemSource,
-    output: &mut Output,
     sink: &mut MemSink,
-    request: &mut Request<Octets>,
 ) -> bool {
-    match next_body(alloc, line, input, source, output, sink, request) {
+    match next_body(alloc, line, server, source, sink) {
         Behind::Body(body) => {
             show_ends(line, body.as_slice());
             line.add("; ");
@@ -86,52 +88,25 @@ fn show_next(
     }
 }
 
+// The messages of a source, and how they end.
 fn show_all(
     alloc: Global,
     line: &mut Line,
-    input: &mut Input,
+    server: &mut Server,
     source: &mut MemSource,
-    output: &mut Output,
     sink: &mut MemSink,
-    request: &mut Request<Octets>,
 ) {
     for _ in 0..99 {
-        if !show_next(alloc, line, input, source, output, sink, request) {
+        if !show_next(alloc, line, server, source, sink) {
             return;
         }
     }
 }
 
-// The messages of a source, and how they end.
-fn show_messages(
-    alloc: Global,
-    line: &mut Line,
-    input: &mut Input,
-    source: &mut MemSource,
-    output: &mut Output,
-    sink: &mut MemSink,
-) {
-    let mut request = Request::new(alloc, Octets::empty(alloc));
-    show_all(alloc, line, input, source, output, sink, &mut request);
-}
-
-fn messages_by(
-    alloc: Global,
-    line: &mut Line,
-    source: &mut MemSource,
-    output: &mut Output,
-    sink: &mut MemSink,
-) {
-    match Input::new(alloc) {
-        Ok(mut input) => show_messages(alloc, line, &mut input, source, output, sink),
-        Err(_) => line.refuse(),
-    }
-}
-
 fn messages_to(alloc: Global, line: &mut Line, source: &mut MemSource, sink: &mut MemSink) {
-    match Output::new(alloc) {
-        Ok(mut output) => messages_by(alloc, line, source, &mut output, sink),
-        Err(_) => line.refuse(),
+    match Server::new(alloc) {
+        Some(mut server) => show_all(alloc, line, &mut server, source, sink),
+        None => line.refuse(),
     }
 }
 

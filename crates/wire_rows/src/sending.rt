@@ -1,10 +1,10 @@
 //! What reaches a sink, and when.
 use crate::cells::{bytes_of, show_ends};
 use crate::framing_of;
+use crate::server::Server;
 use dav_io::{MemSink, MemSource, NoMemory, Octets};
 use dav_rows::{Line, word};
-use dav_wire::{Found, Framing, Input, Output, fill_flushing};
-use http::Request;
+use dav_wire::{Found, Framing, Output, fill_flushing};
 use std::alloc::Global;
 
 // Room for a body.
@@ -130,16 +130,14 @@ pub fn push(alloc: Global, line: &mut Line, row: &str) {
 fn ask(
     alloc: Global,
     line: &mut Line,
-    input: &mut Input,
+    server: &mut Server,
     source: &mut MemSource,
-    output: &mut Output,
     sink: &mut MemSink,
-    request: &mut Request<Octets>,
 ) {
-    let _ = output.push(sink, b"wait");
-    match input.next_head(alloc, request) {
+    let _ = server.output.push(sink, b"wait");
+    match server.input.next_head(alloc, &mut server.request) {
         Ok(Found::More) => {
-            let _ = fill_flushing(input, source, output, sink);
+            let _ = fill_flushing(&mut server.input, source, &mut server.output, sink);
         }
         Ok(_) => {}
         Err(_) => line.refuse(),
@@ -149,46 +147,19 @@ fn ask(
 fn ask_each(
     alloc: Global,
     line: &mut Line,
-    input: &mut Input,
+    server: &mut Server,
     source: &mut MemSource,
-    output: &mut Output,
     sink: &mut MemSink,
-    request: &mut Request<Octets>,
 ) {
     for _ in 0..3u8 {
-        ask(alloc, line, input, source, output, sink, request);
-    }
-}
-
-fn ask_into(
-    alloc: Global,
-    line: &mut Line,
-    input: &mut Input,
-    source: &mut MemSource,
-    output: &mut Output,
-    sink: &mut MemSink,
-) {
-    let mut request = Request::new(alloc, Octets::empty(alloc));
-    ask_each(alloc, line, input, source, output, sink, &mut request);
-}
-
-fn ask_by(
-    alloc: Global,
-    line: &mut Line,
-    source: &mut MemSource,
-    output: &mut Output,
-    sink: &mut MemSink,
-) {
-    match Input::new(alloc) {
-        Ok(mut input) => ask_into(alloc, line, &mut input, source, output, sink),
-        Err(_) => line.refuse(),
+        ask(alloc, line, server, source, sink);
     }
 }
 
 fn ask_thrice(alloc: Global, line: &mut Line, source: &mut MemSource, sink: &mut MemSink) {
-    match Output::new(alloc) {
-        Ok(mut output) => ask_by(alloc, line, source, &mut output, sink),
-        Err(_) => line.refuse(),
+    match Server::new(alloc) {
+        Some(mut server) => ask_each(alloc, line, &mut server, source, sink),
+        None => line.refuse(),
     }
 }
 
