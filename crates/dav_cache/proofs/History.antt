@@ -10,8 +10,8 @@ use Rattle.dav_cache.specs.declared.event.Event.TheVariants.{Ask, Peek, Check, C
 use Rattle.dav_cache.specs.declared.place.Place.TheVariants.{Idle, Asked, Peeked, Passed, Failed, Begun, Lists, Ended, Finding, Got, Missed}
 use Rattle.dav_cache.specs.declared.event.Told.TheVariants.{Nothing, Absent, Path, Misplaced}
 use Rattle.dav_cache.specs.Transparency.{is_caller, is_misplaced, is_own, own, Checked, Held, holding, Noted, IsNoted, PeeksAreHeld}
-use Rattle.dav_cache.proofs.Steps.{is_time_at}
-use Rattle.dav_cache.proofs.Runs.{get-replicate}
+use Rattle.dav_cache.proofs.Keys.{is_time_at}
+use Rattle.dav_cache.proofs.Places.{get-set_own, get-set_other, get-replicate}
 
 pub run-append : (s : State) (xs ys : List Event) → run s (xs ++ ys) ≡ run (run s xs) ys
 run-append s [] ys = refl
@@ -142,18 +142,6 @@ misplaced_not_own c s e h = ap (λ t. is_caller c e && not (is_misplaced t)) h �
 
 own_by : (c : ℕ) (s : State) (e : Event) (t : Told) → is_caller c e ≡ true → told s e ≡ t → is_misplaced t ≡ false → is_own c s e ≡ true
 own_by c s e t who what is = ap (λ b. b && not (is_misplaced (told s e))) who ∙ ap (λ w. not (is_misplaced w)) what ∙ ap not is
-
-get-set_other : (ps : List Place) (c i : ℕ) (p q : Place) → i ≢ c → slice_get (slice_set ps c p) i ≡ Some q → slice_get ps i ≡ Some q
-get-set_other [] c i p q ne h = h
-get-set_other (r ∷ ps) zero zero p q ne h = absurd (ne refl)
-get-set_other (r ∷ ps) zero (suc i) p q ne h = h
-get-set_other (r ∷ ps) (suc c) zero p q ne h = h
-get-set_other (r ∷ ps) (suc c) (suc i) p q ne h = get-set_other ps c i p q (λ e. ne (ap suc e)) h
-
-get-set_own : (ps : List Place) (c : ℕ) (p q : Place) → slice_get (slice_set ps c p) c ≡ Some q → p ≡ q
-get-set_own [] c p q h = cc
-get-set_own (r ∷ ps) zero p q h = cc
-get-set_own (r ∷ ps) (suc c) p q h = get-set_own ps c p q h
 
 module _ (s0 : State) (done : List Event) (all : AllTell s0 done (run s0 done)) (e : Event) where
   abbrev After_e : State → Type 0

@@ -11,11 +11,12 @@ use Rattle.dav_cache.specs.declared.event.Event.TheVariants.{Ask, Peek, Check, C
 use Rattle.dav_cache.specs.declared.place.Place.TheVariants.{Idle, Asked, Peeked, Passed, Failed, Begun, Lists, Ended, Finding, Got, Missed}
 use Rattle.dav_cache.specs.declared.event.Told.TheVariants.{Nothing, Absent, Path, Misplaced}
 use Rattle.dav_cache.specs.Transparency.{SoundAt, SameNames}
-use Rattle.dav_cache.proofs.Keys.{time_decides, path_cases}
+use Rattle.dav_cache.proofs.Keys.{is_time_at, path_cases}
 use Rattle.dav_cache.proofs.Lists.{purged-take, lookup-take}
 use Rattle.dav_cache.proofs.Dots.{AllBelow, Falling, below-lookup, below-take, below-without, falling-take, falling-without, sound-take, sound-dropped, kept-dropped, one-number, seals}
 use Rattle.dav_cache.proofs.Order.{HasUpTo, up_to_given, and_false}
-use Rattle.dav_cache.proofs.Invariant.{AreNamesOf, PlaceOk, Data, Inv, Keeps, Passing, holds_on, next, get-set, get-set_same}
+use Rattle.dav_cache.proofs.Invariant.{AreNamesOf, PlaceOk, Data, Inv, Keeps, Passing, holds_on, next}
+use Rattle.dav_cache.proofs.Places.{get-set, get-set_same}
 
 -- a tree that an event sets is one of these
 abbrev pub KnowsTree : List Tree → Event → Type 0
@@ -27,10 +28,6 @@ KnowsTree trees _ = Unit {0}
 pub told_time : (refused : Bool) (tree : Tree) (dir : Names) (t : FileTime) → time_told refused tree dir ≡ Some t → time_of tree dir ≡ Some t
 told_time true tree dir t h = cc
 told_time false tree dir t h = h
-
-pub is_time_at : (t : FileTime) (o : Option FileTime) → is_time t o ≡ true → o ≡ Some t
-is_time_at t None h = absurd (false≢true h)
-is_time_at t (Some u) h = ap Some (sym ((time_decides t u).0 h))
 
 one_time_parts : (before after : Option FileTime) (t : FileTime) → one_time before after ≡ Some t → (before ≡ Some t) × (after ≡ Some t)
 one_time_parts None after t h = cc
