@@ -160,10 +160,10 @@ came_fact s e c (Peeked dir name number t) old came =
     )
 came_fact s e c (Passed dir name number t) old came = old.places c (Peeked dir name number t) came.1
 came_fact s e c (Lists l) old came = elim came [
-  | inl begins ↦ subst GivenOnce (sym begins.1) (tt, λ x is. absurd (false≢true is))
-  | inr (was, refused, at, open_, is) ↦ subst GivenOnce (sym is) (lists_next_once s.tree was (time_told refused s.tree was.dir) (old.places c (Lists was) at))
+  | inl (refused, by_before, is) ↦ subst GivenOnce (sym is) (tt, λ x is. absurd (false≢true is))
+  | inr (refused, by_next, was, at, open_, is) ↦ subst GivenOnce (sym is) (lists_next_once s.tree was (time_told refused s.tree was.dir) (old.places c (Lists was) at))
 ]
-came_fact s e c (Ended l after) old came = (old.places c (Lists l) came.1).0
+came_fact s e c (Ended l after) old came = let (refused, by_after, at, ended, is) = came in (old.places c (Lists l) at).0
 came_fact s e c _ old came = tt
 
 turn_facts : (s : State) (e : Event) (t : Turn) (b : Bool) → Turned s e t b → FactsOk s → FactsOk t.0

@@ -33,9 +33,9 @@ pub data DotsTurn (s : State) : Dots → ℕ → Type 0 where
 
 -- ---- what becomes of a caller's place
 
--- the listing begins, with what the disk told of the directory's time
-abbrev pub Begins : State → Listing → Type 0
-Begins s l = (refused : Bool) × (l ≡ record {
+-- a listing begins, with what the disk told of the directory's time
+abbrev pub Begins : State → Event → ℕ → Listing → Type 0
+Begins s e c l = (refused : Bool) × (e ≡ Before c refused) × (l ≡ record {
   dir = l.dir;
   before = time_told refused s.tree l.dir;
   last = None;
@@ -45,8 +45,10 @@ Begins s l = (refused : Bool) × (l ≡ record {
 })
 
 -- or is one step further
-abbrev pub GoesOn : State → ℕ → Listing → Type 0
-GoesOn s c l = (was : Listing) × (refused : Bool) × (slice_get s.places c ≡ Some (Lists was)) × (was.ended ≡ false) × (l ≡ lists_next s.tree was (time_told refused s.tree was.dir))
+abbrev pub GoesOn : State → Event → ℕ → Listing → Type 0
+GoesOn s e c l =
+    (refused : Bool) × (e ≡ ListNext c refused) × (was : Listing) × (slice_get s.places c ≡ Some (Lists was)) × (was.ended ≡ false)
+    × (l ≡ lists_next s.tree was (time_told refused s.tree was.dir))
 
 -- by what event a caller comes to a place, and from where
 abbrev pub Came : State → Event → ℕ → Place → Type 0
@@ -56,8 +58,10 @@ Came s e c (Peeked dir name number time) =
     × (entry.number ≡ number) × (entry.time ≡ time)
 Came s e c (Passed dir name number time) =
     (e ≡ Check c false) × (slice_get s.places c ≡ Some (Peeked dir name number time)) × (time_of s.tree dir ≡ Some time)
-Came s e c (Lists l) = Begins s l ⊎ GoesOn s c l
-Came s e c (Ended l after) = (refused : Bool) × (slice_get s.places c ≡ Some (Lists l)) × (l.ended ≡ true) × (after ≡ time_told refused s.tree l.dir)
+Came s e c (Lists l) = Begins s e c l ⊎ GoesOn s e c l
+Came s e c (Ended l after) =
+    (refused : Bool) × (e ≡ After c refused) × (slice_get s.places c ≡ Some (Lists l)) × (l.ended ≡ true)
+    × (after ≡ time_told refused s.tree l.dir)
 Came s e c (Finding path) = e ≡ Find c path
 Came s e c (Got asked path) =
     (e ≡ Get c) × (slice_get s.places c ≡ Some (Finding asked)) × (entry : PathEntry) × (lookup (same_path (fold_path asked)) s.paths ≡ Some entry)
@@ -164,7 +168,7 @@ module _ (s : State) (c : ℕ) where
   begin_turned dir _ = misplaced
 
   before_turned : (refused : Bool) (o : Option Place) → Turned s (Before c refused) (before s c refused o) (option_map_or is_begun o false)
-  before_turned refused (Some (Begun dir)) = moved (Before c refused) (Lists _) Nothing (λ i. refl) tt (inl (refused, refl))
+  before_turned refused (Some (Begun dir)) = moved (Before c refused) (Lists _) Nothing (λ i. refl) tt (inl (refused, refl, refl))
   before_turned refused _ = misplaced
 
   list_next_turned : (refused : Bool) (o : Option Place) → slice_get s.places c ≡ o
@@ -173,7 +177,7 @@ module _ (s : State) (c : ℕ) where
       let p : Place = Lists (lists_next s.tree l (time_told refused s.tree l.dir)) in
       (elim (l.ended) as (λ b. l.ended ≡ b → Turned s (ListNext c refused) (if b then (s, Misplaced) else goes s c p Nothing) (not b)) [
         | true ↦ λ is. misplaced
-        | false ↦ λ is. moved (ListNext c refused) p Nothing (λ i. refl) tt (inr (l, refused, at, is, refl))
+        | false ↦ λ is. moved (ListNext c refused) p Nothing (λ i. refl) tt (inr (refused, refl, l, at, is, refl))
       ]) refl
   list_next_turned refused _ at = misplaced
 
@@ -182,7 +186,7 @@ module _ (s : State) (c : ℕ) where
   after_turned refused (Some (Lists l)) at =
       let p : Place = Ended l (time_told refused s.tree l.dir) in
       (elim (l.ended) as (λ b. l.ended ≡ b → Turned s (After c refused) (if b then goes s c p Nothing else (s, Misplaced)) b) [
-        | true ↦ λ is. moved (After c refused) p Nothing (λ i. refl) tt (refused, at, is, refl)
+        | true ↦ λ is. moved (After c refused) p Nothing (λ i. refl) tt (refused, refl, at, is, refl)
         | false ↦ λ is. misplaced
       ]) refl
   after_turned refused _ at = misplaced
