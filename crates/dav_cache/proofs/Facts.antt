@@ -174,7 +174,7 @@ turn_facts s e t b (turned u tells made) old =
       dots = left.counted;
       table = left.table;
       numbered = left.numbered;
-      places = λ c p h. fact-more old.table left.table s.next u.0.next p left.like left.more (elim (made.places c p h) [ inl was ↦ old.places c p was.0 | inr came ↦ came_fact s e c p old came ]);
+      places = λ c p h. fact-more old.table left.table s.next u.0.next p left.like left.more (elim (made.places c p h) [ inl (was, other) ↦ old.places c p was | inr (mine, came) ↦ came_fact s e c p old came ]);
     }
 
 pub step_facts : (s : State) (e : Event) → FactsOk s → FactsOk (step s e)

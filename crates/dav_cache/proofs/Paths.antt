@@ -68,7 +68,7 @@ turn_ok : (s : State) (e : Event) (t : Turn) (b : Bool) → Turned s e t b → P
 turn_ok s e t b misplaced old = old
 turn_ok s e t b (turned u tells made) old = record {
   folded = folded_turn s u.0.paths made.paths old.folded;
-  places = λ c p h. elim (made.places c p h) [ inl was ↦ old.places c p was.0 | inr came ↦ came_ok s e c p old.folded came ];
+  places = λ c p h. elim (made.places c p h) [ inl (was, other) ↦ old.places c p was | inr (mine, came) ↦ came_ok s e c p old.folded came ];
 }
 
 pub run_ok : (s : State) (events : List Event) → PathsOk s → PathsOk (run s events)

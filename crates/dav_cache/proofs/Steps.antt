@@ -174,7 +174,7 @@ module _ (trees : List Tree) (same : SameNames trees) (A A' : ℕ → Names → 
         | inr is ↦ subst (KnowsTree trees) is known
       ] in
       next trees same A A' s u.0 inv pass (record { known = known_; falling = left.falling; below = left.below; sound = left.sound }) keeps
-      (λ c p h. elim (made.places c p h) [ inl was ↦ inl was.0 | inr came ↦ inr (came_ok s e u.0 made inv pass keeps c p h came) ])
+      (λ c p h. elim (made.places c p h) [ inl (was, other) ↦ inl was | inr (mine, came) ↦ inr (came_ok s e u.0 made inv pass keeps c p h came) ])
 
   pub step_inv : (s : State) (event : Event) → KnowsTree trees event → Inv trees A s → Passing A A' s (step s event) → Inv trees A' (step s event)
   step_inv s event known inv pass = turn_inv s event (turn s event) (fits s event) (each_turn s event) known inv pass

@@ -2,14 +2,14 @@
 use Rattle.std.proofs.Common.{◌≡◌, ◌≢◌, ℕ, zero, suc, ◌+◌, ◌-◌, ◌^◌, ◌==◌, Bool, true, false, not, ◌&&◌, List, [], ◌∷◌, Option, Some, None, if◌then◌else◌, nat_lt, refl, sym, ap, subst, ◌∙◌, inl, inr, ◌⊎◌, slice_get, slice_set}
 use Rattle.std.specs.Option.{option_map_or}
 use Rattle.std.specs.Map.{lookup}
-use Rattle.std.proofs.lemmas.Bool.{false≢true, ne_eqb, cases_eq}
+use Rattle.std.proofs.lemmas.Bool.{false≢true, ne_eqb, eq-eqb, cases_eq}
 use Rattle.dav_cache.specs.Trees.{Name, Names, FileTime, Tree, same_path, has_row, time_of, fold_path}
 use Rattle.dav_cache.specs.Entries.{Dots, DuEntry, PathEntry, Paths, dir_key, same_key, concludes, without, inserted, promoted, purged, sealed, is_old_path, is_old_dot}
 use Rattle.dav_cache.specs.Core.{Event, Moment, State, Place, Told, Turn, Listing, goes, settled, is_time, time_told, ask, peeked, peek, check, conclude, drop_dir, begin, before, lists_next, list_next, after, new_dots, with_dots, seal, find, got, get, probe, drop, insert, purge, turn}
 use Rattle.dav_cache.specs.declared.event.Event.TheVariants.{Ask, Peek, Check, Conclude, DropDir, Begin, Before, ListNext, After, Seal, Find, Get, Probe, Drop, Insert, Purge, Change}
 use Rattle.dav_cache.specs.declared.place.Place.TheVariants.{Idle, Asked, Peeked, Passed, Failed, Begun, Lists, Ended, Finding, Got, Missed}
 use Rattle.dav_cache.specs.declared.event.Told.TheVariants.{Nothing, Absent, Path, Misplaced}
-use Rattle.dav_cache.specs.Transparency.{is_caller, is_idle, is_asked, is_peeked, is_passed, is_failed, is_begun, lists_on, has_listed, is_ended, is_finding, is_got, is_missed, fits}
+use Rattle.dav_cache.specs.Transparency.{is_caller, is_misplaced, is_idle, is_asked, is_peeked, is_passed, is_failed, is_begun, lists_on, has_listed, is_ended, is_finding, is_got, is_missed, fits}
 use Rattle.dav_cache.proofs.Keys.{is_time_at}
 use Rattle.dav_cache.proofs.Places.{get-set_own, get-set_other}
 
@@ -75,7 +75,7 @@ pub record Made (s : State) (e : Event) (t : State) : Type 0 where
   pub tree : (t.tree ≡ s.tree) ⊎ (e ≡ Change t.tree)
   pub paths : PathsTurn s t.paths
   pub dots : DotsTurn s t.dots t.next
-  pub places : (c : ℕ) (p : Place) → slice_get t.places c ≡ Some p → ((slice_get s.places c ≡ Some p) × (is_caller c e ≡ false)) ⊎ Came s e c p
+  pub places : (c : ℕ) (p : Place) → slice_get t.places c ≡ Some p → ((slice_get s.places c ≡ Some p) × (is_caller c e ≡ false)) ⊎ ((is_caller c e ≡ true) × Came s e c p)
 
 abbrev pub TellsAbsent : State → Event → Type 0
 TellsAbsent s e = (c : ℕ) × (dir : Names) × (name : Name) × (number : ℕ) × (t : FileTime) × (e ≡ Conclude c) × (slice_get s.places c ≡ Some (Passed dir name number t)) × (concludes s.dots dir name number ≡ true)
@@ -91,6 +91,12 @@ Tells s e (Absent false) = Unit {0}
 Tells s e (Path (Some path)) = TellsPath s e path
 Tells s e (Path None) = Unit {0}
 Tells s e Misplaced = ⊥
+
+pub tells_placed : (s : State) (e : Event) (told : Told) → Tells s e told → is_misplaced told ≡ false
+tells_placed s e Nothing tells = refl
+tells_placed s e (Absent absent) tells = refl
+tells_placed s e (Path path) tells = refl
+tells_placed s e Misplaced tells = absurd tells
 
 -- a turn of an event that fits, or doesn't
 pub data Turned (s : State) (e : Event) : Turn → Bool → Type 0 where
@@ -109,7 +115,7 @@ goes_made s s1 e c p told tree same who paths dots came = record {
   places = λ i q h. elim (cases_eq i c) [
     | inl is ↦
         let own : slice_get (slice_set s1.places c p) c ≡ Some q = subst (λ w. slice_get (slice_set s1.places c p) w ≡ Some q) is h in
-        inr (subst (λ w. Came s e w q) (sym is) (subst (Came s e c) (get-set_own s1.places c p q own) came))
+        inr (who i ∙ eq-eqb c i (sym is), subst (λ w. Came s e w q) (sym is) (subst (Came s e c) (get-set_own s1.places c p q own) came))
     | inr ne ↦ inl (subst (λ w. slice_get w i ≡ Some q) same (get-set_other s1.places c i p q ne h), who i ∙ ne_eqb c i (λ h. ne (sym h)))
   ];
 }
