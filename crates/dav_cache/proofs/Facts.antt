@@ -1,13 +1,12 @@
 -- The facts on the dot-underscore entries, in every run. No premise is needed.
-use Rattle.std.proofs.Common.{Contains, ◌≡◌, ℕ, ◌-◌, ◌<◌, ◌≤◌, ◌^◌, nat_lt, ◌||◌, Bool, true, false, not, ◌&&◌, List, [], ◌∷◌, Option, Some, None, if◌then◌else◌, refl, sym, ap, subst, ◌∙◌, arith, ◌++◌, inl, inr, slice_get}
+use Rattle.std.proofs.Common.{Contains, ◌≡◌, ℕ, ◌<◌, ◌≤◌, ◌||◌, Bool, true, false, ◌&&◌, List, [], ◌∷◌, Option, Some, None, if◌then◌else◌, refl, sym, ap, subst, ◌∙◌, arith, ◌++◌, inl, inr, slice_get}
 use Rattle.std.specs.Prelude.{pos}
-use Rattle.std.specs.Map.{lookup}
 use Rattle.std.specs.List.{list_any, filter}
 use Rattle.std.proofs.lemmas.Bool.{cases_Bool, false≢true, true≢false, or_cases}
 use Rattle.dav_cache.specs.Trees.{Name, Names, FileTime, Tree, same_name, is_dot, is_after, is_less, next_name, names_in}
 use Rattle.dav_cache.specs.Entries.{Dots, Listed, IsCounted, AreCounted, is_old_dot, dir_key, same_key}
 use Rattle.dav_cache.specs.Core.{Event, State, Place, Turn, Listing, time_told, given, lists_next, turn, step, run, start}
-use Rattle.dav_cache.specs.declared.place.Place.TheVariants.{Idle, Asked, Peeked, Passed, Failed, Begun, Lists, Ended, Finding, Got, Missed}
+use Rattle.dav_cache.specs.declared.place.Place.TheVariants.{Idle, Peeked, Passed, Lists, Ended}
 use Rattle.dav_cache.proofs.Lists.{purged-take}
 use Rattle.dav_cache.proofs.Places.{get-replicate}
 use Rattle.dav_cache.specs.Transparency.{AllBelow, Falling, Numbers, AllNumbered, HoldsNumber, FactsAreKept, fits}

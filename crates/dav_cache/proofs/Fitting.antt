@@ -1,5 +1,5 @@
 -- Misplaced is told exactly where an event doesn't fit.
-use Rattle.std.proofs.Common.{◌≡◌, Bool, true, false, refl, subst}
+use Rattle.std.proofs.Common.{◌≡◌, Bool, false, refl, subst}
 use Rattle.std.proofs.lemmas.Bool.{true≢false}
 use Rattle.dav_cache.specs.Core.{Event, State, Turn, turn}
 use Rattle.dav_cache.specs.declared.event.Told.TheVariants.{Misplaced}

@@ -1,10 +1,7 @@
 -- A caller's place tells its own last events.
-use Rattle.std.proofs.Common.{◌≡◌, ◌≢◌, ℕ, zero, suc, ◌==◌, Bool, true, false, not, ◌&&◌, List, [], ◌∷◌, ◌++◌, Option, Some, None, if◌then◌else◌, refl, sym, ap, subst, ◌∙◌, inl, inr, slice_get, slice_set, append_assoc}
-use Rattle.std.specs.Map.{lookup}
+use Rattle.std.proofs.Common.{◌≡◌, ℕ, Bool, true, false, not, ◌&&◌, List, [], ◌∷◌, ◌++◌, Some, if◌then◌else◌, refl, sym, ap, subst, ◌∙◌, inl, inr, slice_get, append_assoc}
 use Rattle.std.proofs.lemmas.List.{append-nil}
-use Rattle.std.proofs.lemmas.Bool.{false≢true, ne_eqb, eq-eqb, cases_eq}
-use Rattle.dav_cache.specs.Trees.{Name, Names, FileTime, Tree, same_path, has_row, time_of, fold_path}
-use Rattle.dav_cache.specs.Entries.{Dots, DuEntry, PathEntry, dir_key, same_key, concludes, without, put, purged, promoted, is_old_dot, is_old_path, whole_seconds}
+use Rattle.dav_cache.specs.Trees.{Name, Names, FileTime, Tree}
 use Rattle.dav_cache.specs.Core.{Event, State, Place, Told, Turn, turn, step, told, run, start}
 use Rattle.dav_cache.specs.declared.event.Event.TheVariants.{Ask, Peek, Check, Find, Get}
 use Rattle.dav_cache.specs.declared.place.Place.TheVariants.{Idle, Asked, Peeked, Passed, Failed, Begun, Lists, Ended, Finding, Got, Missed}
@@ -180,7 +177,7 @@ module _ (s0 : State) (done : List Event) (all : AllTell s0 done (run s0 done)) 
           found = at;
         },
         subst (λ w. Noted s0 (done ++ e ∷ []) c (holding dir name number time) (w ∷ [])) by_check
-        (noted_more s0 done c e (holding dir name number time) [] mine was.1),
+            (noted_more s0 done c e (holding dir name number time) [] mine was.1),
       )
   came_tells c (Finding path) mine came = (own c s0 done, own-more c s0 done e mine ∙ ap (λ w. own c s0 done ++ w ∷ []) came)
   came_tells c (Got asked path) mine (by_get, from, entry, found, is) =

@@ -1,15 +1,15 @@
 -- The three items.
-use Rattle.std.proofs.Common.{◌≡◌, ℕ, ◌==◌, Bool, true, false, not, ◌&&◌, [], ◌∷◌, ◌++◌, Option, Some, None, if◌then◌else◌, refl, sym, ap, subst, ◌∙◌, inl, inr, ◌⊎◌, Contains, slice_get}
+use Rattle.std.proofs.Common.{◌≡◌, ℕ, ◌==◌, Bool, true, false, not, [], ◌∷◌, ◌++◌, Option, Some, None, refl, sym, ap, subst, ◌∙◌, Contains}
 use Rattle.std.specs.Map.{lookup}
 use Rattle.std.specs.Option.{option_map_or}
 use Rattle.std.proofs.lemmas.List.{append-nil}
 use Rattle.std.proofs.lemmas.Bool.{false≢true, and_parts, not-true, eqb-true}
-use Rattle.dav_cache.specs.Trees.{Name, Names, FileTime, Tree, same_path, has_row, fold_path}
-use Rattle.dav_cache.specs.Entries.{DuKey, DuEntry, Dots, PathEntry, dir_key, name_key, same_key, concludes, stands}
+use Rattle.dav_cache.specs.Trees.{Names, Tree}
+use Rattle.dav_cache.specs.Entries.{DuKey, DuEntry, Dots, dir_key, name_key, same_key, stands}
 use Rattle.dav_cache.specs.Core.{Event, State, Turn, turn, told, run, start}
-use Rattle.dav_cache.specs.declared.event.Event.TheVariants.{Ask, Peek, Check, Conclude, DropDir, Begin, Before, ListNext, After, Seal, Find, Get, Probe, Drop, Insert, Purge, Change}
-use Rattle.dav_cache.specs.declared.place.Place.TheVariants.{Idle, Asked, Peeked, Passed, Failed, Begun, Lists, Ended, Finding, Got, Missed}
-use Rattle.dav_cache.specs.declared.event.Told.TheVariants.{Nothing, Absent, Path, Misplaced}
+use Rattle.dav_cache.specs.declared.event.Event.TheVariants.{Check}
+use Rattle.dav_cache.specs.declared.place.Place.TheVariants.{Passed, Got}
+use Rattle.dav_cache.specs.declared.event.Told.TheVariants.{Absent, Path}
 use Rattle.dav_cache.specs.Transparency.{IsFair, trees_of, AbsentOnlyWhereAbsent, PathOnlyWhereThere, ChecksAreHeld, fits}
 use Rattle.dav_cache.proofs.Runs.{at_moment}
 use Rattle.dav_cache.proofs.Turns.{TellsAbsent, TellsPath, Tells, Turned, misplaced, turned, each_turn}

@@ -4,7 +4,7 @@ use Rattle.std.specs.Map.{lookup}
 use Rattle.dav_cache.specs.Trees.{Names, Tree, same_path, fold_path}
 use Rattle.dav_cache.specs.Entries.{PathEntry, Paths, without, is_old_path}
 use Rattle.dav_cache.specs.Core.{Event, State, Place, Turn, turn, step, run, start}
-use Rattle.dav_cache.specs.declared.place.Place.TheVariants.{Idle, Asked, Peeked, Passed, Failed, Begun, Lists, Ended, Finding, Got, Missed}
+use Rattle.dav_cache.specs.declared.place.Place.TheVariants.{Idle, Got}
 pub use Rattle.dav_cache.specs.Transparency.{AllFolded}
 use Rattle.dav_cache.specs.Transparency.{fits}
 use Rattle.dav_cache.proofs.Keys.{path_decides}

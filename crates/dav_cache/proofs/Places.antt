@@ -1,13 +1,6 @@
 -- The places of callers, after one of them goes to another place.
-use Rattle.std.proofs.Common.{◌≡◌, ◌≢◌, ℕ, zero, suc, List, [], ◌∷◌, Some, refl, ap, replicate, inl, inr, ◌⊎◌, slice_get, slice_set}
+use Rattle.std.proofs.Common.{◌≡◌, ◌≢◌, ℕ, zero, suc, List, [], ◌∷◌, Some, refl, ap, replicate, slice_get, slice_set}
 use Rattle.dav_cache.specs.Core.{Place}
-
-pub get-set : (ps : List Place) (c i : ℕ) (p q : Place) → slice_get (slice_set ps c p) i ≡ Some q → ((i ≡ c) × (p ≡ q)) ⊎ (slice_get ps i ≡ Some q)
-get-set [] c i p q h = inr h
-get-set (r ∷ ps) zero zero p q h = inl (refl, cc)
-get-set (r ∷ ps) zero (suc i) p q h = inr h
-get-set (r ∷ ps) (suc c) zero p q h = inr h
-get-set (r ∷ ps) (suc c) (suc i) p q h = elim (get-set ps c i p q h) [ inl at ↦ inl (ap (λ n. suc n) at.0, at.1) | inr was ↦ inr was ]
 
 pub get-set_same : (ps : List Place) (c : ℕ) (p q : Place) → slice_get ps c ≡ Some q → slice_get (slice_set ps c p) c ≡ Some p
 get-set_same [] c p q h = cc

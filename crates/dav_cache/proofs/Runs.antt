@@ -1,7 +1,7 @@
 -- The invariant holds along every run under the premises.
-use Rattle.std.proofs.Common.{◌≡◌, ◌≢◌, ℕ, zero, suc, ◌<◌, ◌≤◌, List, [], ◌∷◌, ◌++◌, length, Some, replicate, refl, inl, inr, subst, arith, Contains, slice_get}
+use Rattle.std.proofs.Common.{◌≡◌, ◌≢◌, ℕ, zero, suc, ◌<◌, ◌≤◌, List, [], ◌∷◌, ◌++◌, length, Some, refl, inl, inr, subst, arith, Contains}
 use Rattle.dav_cache.specs.Trees.{Names, FileTime, Tree, time_of}
-use Rattle.dav_cache.specs.Core.{Event, State, Place, step, run, start}
+use Rattle.dav_cache.specs.Core.{Event, State, step, run, start}
 use Rattle.dav_cache.specs.declared.event.Event.TheVariants.{Change}
 use Rattle.dav_cache.specs.declared.place.Place.TheVariants.{Idle, Lists}
 use Rattle.dav_cache.specs.Transparency.{SameNames, IsListing, NoReturn, IsFair, EntriesAreSound, ListingsAreRight, moment, changes, trees_of}

@@ -1,10 +1,10 @@
 -- Each event keeps the invariant.
-use Rattle.std.proofs.Common.{◌≡◌, ℕ, ◌<◌, ◌≤◌, ◌⊎◌, Bool, true, false, not, ◌&&◌, List, [], Option, Some, None, if◌then◌else◌, nat_lt, refl, sym, ap, subst, ◌∙◌, arith, inl, inr, Contains, slice_get}
+use Rattle.std.proofs.Common.{◌≡◌, ℕ, ◌<◌, ◌≤◌, ◌⊎◌, Bool, true, false, ◌&&◌, List, [], Option, Some, None, if◌then◌else◌, refl, sym, ap, subst, ◌∙◌, arith, inl, inr, Contains, slice_get}
 use Rattle.std.specs.Map.{lookup}
 use Rattle.std.specs.List.{list_any}
 use Rattle.std.proofs.lemmas.Bool.{false≢true}
 use Rattle.std.proofs.Math.Bool.{and-true}
-use Rattle.dav_cache.specs.Trees.{Name, Names, FileTime, Tree, same_name, same_path, has_name, has_row, time_of, next_name, fold_path}
+use Rattle.dav_cache.specs.Trees.{Name, Names, FileTime, Tree, same_name, has_name, time_of, next_name}
 use Rattle.dav_cache.specs.Entries.{DuEntry, Dots, Listed, is_old_dot, dir_key, same_key}
 use Rattle.dav_cache.specs.Core.{Event, State, Place, Turn, Listing, settled, one_time, is_time, time_told, given, lists_next, turn, step}
 use Rattle.dav_cache.specs.declared.event.Event.TheVariants.{Before, ListNext, Change}
