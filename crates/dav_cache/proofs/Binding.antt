@@ -20,7 +20,7 @@ use Rattle.dav_cache.specs.declared.place.Place.TheVariants.{Idle, Asked, Peeked
 use Rattle.dav_cache.specs.declared.event.Told.TheVariants.{Nothing, Absent, Path}
 use Rattle.dav_cache.specs.Transparency.{GetIsEvents, NegativeIsEvents, LookUpsAreEvents, GetsAreEvents, OpensAreEvents, NegativesAreEvents}
 use Rattle.dav_cache.proofs.Keys.{path_decides}
-use Rattle.dav_cache.proofs.Invariant.{get-set_same}
+use Rattle.dav_cache.proofs.Places.{get-set_same}
 
 -- ---- what a walk finds
 

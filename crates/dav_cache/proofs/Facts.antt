@@ -1,25 +1,22 @@
 -- The facts on the dot-underscore entries, in every run. No premise is needed.
-use Rattle.std.proofs.Common.{Contains, ◌≡◌, ℕ, ◌-◌, ◌<◌, ◌≤◌, ◌^◌, nat_lt, ◌||◌, Bool, true, false, not, ◌&&◌, List, [], ◌∷◌, Option, Some, None, if◌then◌else◌, refl, sym, ap, subst, ◌∙◌, arith, ◌++◌, inl, inr, slice_get}
+use Rattle.std.proofs.Common.{Contains, ◌≡◌, ℕ, ◌<◌, ◌≤◌, ◌||◌, Bool, true, false, ◌&&◌, List, [], ◌∷◌, Option, Some, None, if◌then◌else◌, refl, sym, ap, subst, ◌∙◌, arith, ◌++◌, inl, inr, slice_get}
 use Rattle.std.specs.Prelude.{pos}
-use Rattle.std.specs.Map.{lookup}
 use Rattle.std.specs.List.{list_any, filter}
 use Rattle.std.proofs.lemmas.Bool.{cases_Bool, false≢true, true≢false, or_cases}
-use Rattle.dav_cache.specs.Trees.{Name, Names, FileTime, Tree, same_name, is_dot, is_after, is_less, next_name, names_in, same_path, has_row, fold_path}
-use Rattle.dav_cache.specs.Entries.{Dots, DuEntry, PathEntry, Listed, IsCounted, sealed, is_old_dot, dir_key, same_key, concludes, without, put, promoted, whole_seconds}
-use Rattle.dav_cache.specs.Core.{Event, Moment, State, Place, Told, Listing, goes, settled, is_time, time_told, ask, peeked, peek, check, conclude, drop_dir, begin, before, given, lists_next, list_next, after, new_dots, with_dots, seal, find, got, get, probe, drop, insert, purge, step, run, start}
-use Rattle.dav_cache.specs.declared.event.Event.TheVariants.{Ask, Peek, Check, Conclude, DropDir, Begin, Before, ListNext, After, Seal, Find, Get, Probe, Drop, Insert, Purge, Change}
-use Rattle.dav_cache.specs.declared.place.Place.TheVariants.{Idle, Asked, Peeked, Passed, Failed, Begun, Lists, Ended, Finding, Got, Missed}
-use Rattle.dav_cache.specs.declared.event.Told.TheVariants.{Nothing, Absent, Path, Misplaced}
+use Rattle.dav_cache.specs.Trees.{Name, Names, FileTime, Tree, same_name, is_dot, is_after, is_less, next_name, names_in}
+use Rattle.dav_cache.specs.Entries.{Dots, Listed, IsCounted, AreCounted, is_old_dot, dir_key, same_key}
+use Rattle.dav_cache.specs.Core.{Event, State, Place, Turn, Listing, time_told, given, lists_next, turn, step, run, start}
+use Rattle.dav_cache.specs.declared.place.Place.TheVariants.{Idle, Peeked, Passed, Lists, Ended}
 use Rattle.dav_cache.proofs.Lists.{purged-take}
-use Rattle.dav_cache.proofs.Invariant.{get-set}
-use Rattle.dav_cache.proofs.Runs.{get-replicate}
-use Rattle.dav_cache.specs.Transparency.{AllBelow, Falling, Numbers, AllNumbered, HoldsNumber, FactsAreKept}
+use Rattle.dav_cache.proofs.Places.{get-replicate}
+use Rattle.dav_cache.specs.Transparency.{AllBelow, Falling, Numbers, AllNumbered, HoldsNumber, FactsAreKept, fits}
 use Rattle.dav_cache.proofs.Keys.{name_decides}
 use Rattle.dav_cache.proofs.Order.{less_itself, after_trans, least_is, any-push, any-filter}
 use Rattle.dav_cache.proofs.Dots.{below-take, below-without, below-lookup, falling-take, falling-without, seals}
 use Rattle.dav_cache.proofs.Numbers.{numbered-lookup, numbered-take, numbered-without, numbered-sealed, numbered-like, with_number, with_number-own, with_number-other}
 use Rattle.dav_cache.proofs.Counts.{AreNew, counted-take, counted-dropped, counted-sealed}
 use Rattle.dav_cache.proofs.Paths.{run_ok, start_ok}
+use Rattle.dav_cache.proofs.Turns.{DotsTurn, dots_stay, dir_goes, dots_age, dir_comes, Came, Turned, misplaced, turned, each_turn}
 
 -- ---- the names of a listing
 
@@ -96,179 +93,91 @@ fact-more table table' n m (Lists l) like le f = f
 fact-more table table' n m (Ended l after) like le f = f
 fact-more table table' n m _ like le f = tt
 
-pub record DotsOk (s : State) : Type 0 where
-  pub below : AllBelow s.next s.dots
-  pub falling : Falling s.dots
-  pub counted : (d : Names) → IsCounted s.dots d
-
 pub record FactsOk (s : State) : Type 0 where
-  pub dots : DotsOk s
+  pub dots : AreCounted s.next s.dots
   pub table : Numbers
   pub numbered : AllNumbered table s.dots
   pub places : (c : ℕ) (p : Place) → slice_get s.places c ≡ Some p → PlaceFact table s.next p
 
-goes_ok : (s s1 : State) (c : ℕ) (p : Place) (t : Told) → s1.places ≡ s.places → s.next ≤ s1.next → DotsOk s1 → (old : FactsOk s)
-    → (table : Numbers) → IsLike s.next old.table table → AllNumbered table s1.dots → PlaceFact table s1.next p → FactsOk (goes s1 c p t).0
-goes_ok s s1 c p t same le dots old table like numbered ok = record {
-  dots = record { below = dots.below; falling = dots.falling; counted = dots.counted };
-  table = table;
-  numbered = numbered;
-  places = λ i q h. elim (get-set s1.places c i p q h) [
-    | inl at ↦ subst (PlaceFact table s1.next) at.1 ok
-    | inr was ↦ fact-more old.table table s.next s1.next q like le (old.places i q (subst (λ w. slice_get w i ≡ Some q) same was))
-  ];
+-- the entries that a turn leaves, and a table of their numbers, which has what the table before it has
+record Leaves (s : State) (known : Numbers) (dots : Dots) (next : ℕ) : Type 0 where
+  more : s.next ≤ next
+  counted : AreCounted next dots
+  table : Numbers
+  like : IsLike s.next known table
+  numbered : AllNumbered table dots
+
+dots_left : (s : State) (old : FactsOk s) (dots : Dots) (next : ℕ) → DotsTurn s dots next → Leaves s old.table dots next
+dots_left s old dots next dots_stay = record { more = omega arith; counted = old.dots; table = old.table; like = λ k less. refl; numbered = old.numbered }
+dots_left s old dots next (dir_goes dir) = record {
+  more = omega arith;
+  counted = record {
+    below = below-without s.next (same_key (dir_key dir)) s.dots old.dots.below;
+    falling = falling-without (same_key (dir_key dir)) s.dots old.dots.falling;
+    counted = λ d. counted-dropped dir d s.dots (old.dots.counted d);
+  };
+  table = old.table;
+  like = λ k less. refl;
+  numbered = numbered-without old.table (same_key (dir_key dir)) s.dots old.numbered;
 }
-
-module _ (s : State) (old : FactsOk s) (c : ℕ) where
-  -- the entries stay
-  stay : (p : Place) (t : Told) → PlaceFact old.table s.next p → FactsOk (goes s c p t).0
-  stay p t ok = goes_ok s s c p t refl (omega arith) old.dots old old.table (λ k less. refl) old.numbered ok
-
-  ask_ok : (dir : Names) (name : Name) (o : Option Place) → FactsOk (ask s c dir name o).0
-  ask_ok dir name (Some Idle) = stay (Asked dir name) Nothing tt
-  ask_ok dir name _ = old
-
-  peeked_ok : (dir : Names) (name : Name) (o : Option DuEntry) → lookup (same_key (dir_key dir)) s.dots ≡ o → FactsOk (peeked s c dir name o).0
-  peeked_ok dir name None h = stay Idle (Absent false) tt
-  peeked_ok dir name (Some e) h = stay (Peeked dir name e.number e.time) Nothing (below-lookup s.next (same_key (dir_key dir)) s.dots e old.dots.below h, numbered-lookup old.table (dir_key dir) s.dots e old.numbered h)
-
-  peek_ok : (o : Option Place) → FactsOk (peek s c o).0
-  peek_ok (Some (Asked dir name)) = peeked_ok dir name (lookup (same_key (dir_key dir)) s.dots) refl
-  peek_ok _ = old
-
-  check_ok : (refused : Bool) (o : Option Place) → slice_get s.places c ≡ o → FactsOk (check s c refused o).0
-  check_ok refused (Some (Peeked dir name number t)) h =
-      (elim (is_time t (time_told refused s.tree dir)) as (λ b. FactsOk (goes s c (if b then Passed dir name number t else Failed dir) Nothing).0) [
-        | true ↦ stay (Passed dir name number t) Nothing (old.places c (Peeked dir name number t) h)
-        | false ↦ stay (Failed dir) Nothing tt
-      ])
-  check_ok refused _ h = old
-
-  conclude_ok : (o : Option Place) → FactsOk (conclude s c o).0
-  conclude_ok (Some (Passed dir name number t)) = stay Idle (Absent (concludes s.dots dir name number)) tt
-  conclude_ok _ = old
-
-  drop_dir_ok : (o : Option Place) → FactsOk (drop_dir s c o).0
-  drop_dir_ok (Some (Failed dir)) =
-      goes_ok s (record s { dots = without (same_key (dir_key dir)) s.dots }) c Idle (Absent false) refl (omega arith)
-      (record {
-        below = below-without s.next (same_key (dir_key dir)) s.dots old.dots.below;
-        falling = falling-without (same_key (dir_key dir)) s.dots old.dots.falling;
-        counted = λ d. counted-dropped dir d s.dots (old.dots.counted d);
-      })
-      old old.table (λ k less. refl) (numbered-without old.table (same_key (dir_key dir)) s.dots old.numbered) tt
-  drop_dir_ok _ = old
-
-  begin_ok : (dir : Names) (o : Option Place) → FactsOk (begin s c dir o).0
-  begin_ok dir (Some Idle) = stay (Begun dir) Nothing tt
-  begin_ok dir _ = old
-
-  before_ok : (refused : Bool) (o : Option Place) → FactsOk (before s c refused o).0
-  before_ok refused (Some (Begun dir)) =
-      stay (Lists (record { dir = dir; before = time_told refused s.tree dir; last = None; names = []; ended = false; whole = true })) Nothing (tt, λ x is. absurd (false≢true is))
-  before_ok refused _ = old
-
-  list_next_ok : (refused : Bool) (o : Option Place) → slice_get s.places c ≡ o → FactsOk (list_next s c refused o).0
-  list_next_ok refused (Some (Lists l)) h =
-      let p : Place = Lists (lists_next s.tree l (time_told refused s.tree l.dir)) in
-      (elim (l.ended) as (λ b. FactsOk (if b then (s, Misplaced) else goes s c p Nothing).0) [ true ↦ old | false ↦ stay p Nothing (lists_next_once s.tree l (time_told refused s.tree l.dir) (old.places c (Lists l) h)) ])
-  list_next_ok refused _ h = old
-
-  after_ok : (refused : Bool) (o : Option Place) → slice_get s.places c ≡ o → FactsOk (after s c refused o).0
-  after_ok refused (Some (Lists l)) h =
-      let p : Place = Ended l (time_told refused s.tree l.dir) in
-      (elim (l.ended) as (λ b. FactsOk (if b then goes s c p Nothing else (s, Misplaced)).0) [ true ↦ stay p Nothing ((old.places c (Lists l) h).0) | false ↦ old ])
-  after_ok refused _ h = old
-
-  with_dots_ok : (l : Listing) (now : Moment) (room : ℕ) (o : Option FileTime) → AreNew (λ x. false) l.names
-      → FactsOk (goes (with_dots s (new_dots s l now room o)) c Idle Nothing).0
-  unfolding new_dots
-  with_dots_ok l now room None new = stay Idle Nothing tt
-  with_dots_ok l now room (Some t) new =
-      let listed : Listed = record { dir = l.dir; time = t; moment = now; number = s.next } in
-      let after_ : Dots = sealed s.dots_size listed l.names room s.dots in
-      let table : Numbers = with_number old.table s.next (l.dir, t) in
-      let done = seals [] s.dots_size s.dots listed l.names room old.dots.falling old.dots.below (λ d e h tree known. absurd (nothing_known tree known)) (λ tree known. absurd (nothing_known tree known)) in
-      (elim (nat_lt s.next (2 ^ 64 - 1)) as (λ b. FactsOk (goes (with_dots s (if b then Some after_ else None)) c Idle Nothing).0) [
-        | true ↦ goes_ok s (with_dots s (Some after_)) c Idle Nothing refl (omega arith)
-            (record { below = done.below; falling = done.falling; counted = counted-sealed s.dots_size listed l.names room s.dots old.dots.falling old.dots.below old.dots.counted new })
-            old table (λ k less. with_number-other old.table s.next (l.dir, t) k less)
-            (numbered-sealed table s.dots_size listed l.names room s.dots (numbered-like old.table s.next (l.dir, t) s.dots old.dots.below old.numbered) (with_number-own old.table s.next (l.dir, t)))
-            tt
-        | false ↦ stay Idle Nothing tt
-      ])
-
-  seal_ok : (now : Moment) (room : ℕ) (o : Option Place) → slice_get s.places c ≡ o → FactsOk (seal s c now room o).0
-  seal_ok now room (Some (Ended l after)) h = with_dots_ok l now room (settled l after) (old.places c (Ended l after) h)
-  seal_ok now room _ h = old
-
-  find_ok : (path : Names) (o : Option Place) → FactsOk (find s c path o).0
-  find_ok path (Some Idle) = stay (Finding path) Nothing tt
-  find_ok path _ = old
-
-  got_ok : (asked : Names) (o : Option PathEntry) → FactsOk (got s c asked o).0
-  got_ok asked None = stay Idle (Path None) tt
-  got_ok asked (Some e) =
-      goes_ok s (record s { paths = promoted (fold_path asked) (Some e) s.paths }) c (Got asked e.path) Nothing refl (omega arith)
-      (record { below = old.dots.below; falling = old.dots.falling; counted = old.dots.counted }) old old.table (λ k less. refl) old.numbered tt
-
-  get_ok : (o : Option Place) → FactsOk (get s c o).0
-  get_ok (Some (Finding asked)) = got_ok asked (lookup (same_path (fold_path asked)) s.paths)
-  get_ok _ = old
-
-  probe_ok : (refused : Bool) (o : Option Place) → FactsOk (probe s c refused o).0
-  probe_ok refused (Some (Got asked path)) =
-      (elim (not refused && has_row s.tree path) as (λ b. FactsOk (if b then goes s c Idle (Path (Some path)) else goes s c (Missed asked) Nothing).0) [
-        | true ↦ stay Idle (Path (Some path)) tt
-        | false ↦ stay (Missed asked) Nothing tt
-      ])
-  probe_ok refused _ = old
-
-  drop_ok : (o : Option Place) → FactsOk (drop s c o).0
-  drop_ok (Some (Missed asked)) =
-      goes_ok s (record s { paths = without (same_path (fold_path asked)) s.paths }) c Idle (Path None) refl (omega arith)
-      (record { below = old.dots.below; falling = old.dots.falling; counted = old.dots.counted }) old old.table (λ k less. refl) old.numbered tt
-  drop_ok _ = old
-
-  insert_ok : (path : Names) (now : Moment) (o : Option Place) → FactsOk (insert s c path now o).0
-  insert_ok path now (Some Idle) =
-      goes_ok s (record s { paths = put s.paths_size (same_path (fold_path path)) (fold_path path) (record { path = path; secs = whole_seconds now.0 }) s.paths }) c Idle Nothing refl (omega arith)
-      (record { below = old.dots.below; falling = old.dots.falling; counted = old.dots.counted }) old old.table (λ k less. refl) old.numbered tt
-  insert_ok path now _ = old
-
-purge_ok : (s : State) (now : Moment) (dots : Bool) → FactsOk s → FactsOk (purge s now dots).0
-purge_ok s now true old =
+dots_left s old dots next (dots_age now) =
     let is = purged-take (is_old_dot now) s.dots in
     record {
-      dots = record {
+      more = omega arith;
+      counted = record {
         below = subst (AllBelow s.next) (sym is.1) (below-take s.next is.0 s.dots old.dots.below);
         falling = subst Falling (sym is.1) (falling-take is.0 s.dots old.dots.falling);
         counted = λ d. subst (λ w. IsCounted w d) (sym is.1) (counted-take is.0 s.dots d old.dots.falling (old.dots.counted d));
       };
       table = old.table;
+      like = λ k less. refl;
       numbered = subst (AllNumbered old.table) (sym is.1) (numbered-take old.table is.0 s.dots old.numbered);
-      places = old.places;
     }
-purge_ok s now false old = record { dots = record { below = old.dots.below; falling = old.dots.falling; counted = old.dots.counted }; table = old.table; numbered = old.numbered; places = old.places }
+dots_left s old dots next (dir_comes c l after time now room at is) =
+    let listed : Listed = record { dir = l.dir; time = time; moment = now; number = s.next } in
+    let table : Numbers = with_number old.table s.next (l.dir, time) in
+    let new : AreNew (λ x. false) l.names = old.places c (Ended l after) at in
+    let done = seals [] s.dots_size s.dots listed l.names room old.dots.falling old.dots.below (λ d e h tree known. absurd (nothing_known tree known)) (λ tree known. absurd (nothing_known tree known)) in
+    record {
+      more = omega arith;
+      counted = record {
+        below = done.below;
+        falling = done.falling;
+        counted = counted-sealed s.dots_size listed l.names room s.dots old.dots.falling old.dots.below old.dots.counted new;
+      };
+      table = table;
+      like = λ k less. with_number-other old.table s.next (l.dir, time) k less;
+      numbered = numbered-sealed table s.dots_size listed l.names room s.dots (numbered-like old.table s.next (l.dir, time) s.dots old.dots.below old.numbered) (with_number-own old.table s.next (l.dir, time));
+    }
+
+-- a place that a caller comes to
+came_fact : (s : State) (e : Event) (c : ℕ) (p : Place) → (old : FactsOk s) → Came s e c p → PlaceFact old.table s.next p
+came_fact s e c (Peeked dir name number t) old came =
+    let (by_peek, from, entry, found, same, time) = came in (
+      subst (λ n. n < s.next) same (below-lookup s.next (same_key (dir_key dir)) s.dots entry old.dots.below found),
+      ap old.table (sym same) ∙ numbered-lookup old.table (dir_key dir) s.dots entry old.numbered found ∙ ap (λ w. (dir, w)) time,
+    )
+came_fact s e c (Passed dir name number t) old came = old.places c (Peeked dir name number t) came.1
+came_fact s e c (Lists l) old came = elim came [
+  | inl (refused, by_before, is) ↦ subst GivenOnce (sym is) (tt, λ x is. absurd (false≢true is))
+  | inr (refused, by_next, was, at, open_, is) ↦ subst GivenOnce (sym is) (lists_next_once s.tree was (time_told refused s.tree was.dir) (old.places c (Lists was) at))
+]
+came_fact s e c (Ended l after) old came = let (refused, by_after, at, ended, is) = came in (old.places c (Lists l) at).0
+came_fact s e c _ old came = tt
+
+turn_facts : (s : State) (e : Event) (t : Turn) (b : Bool) → Turned s e t b → FactsOk s → FactsOk t.0
+turn_facts s e t b misplaced old = old
+turn_facts s e t b (turned u tells made) old =
+    let left = dots_left s old u.0.dots u.0.next made.dots in
+    record {
+      dots = left.counted;
+      table = left.table;
+      numbered = left.numbered;
+      places = λ c p h. fact-more old.table left.table s.next u.0.next p left.like left.more (elim (made.places c p h) [ inl (was, other) ↦ old.places c p was | inr (mine, came) ↦ came_fact s e c p old came ]);
+    }
 
 pub step_facts : (s : State) (e : Event) → FactsOk s → FactsOk (step s e)
-step_facts s (Ask c dir name) old = ask_ok s old c dir name (slice_get s.places c)
-step_facts s (Peek c) old = peek_ok s old c (slice_get s.places c)
-step_facts s (Check c refused) old = check_ok s old c refused (slice_get s.places c) refl
-step_facts s (Conclude c) old = conclude_ok s old c (slice_get s.places c)
-step_facts s (DropDir c) old = drop_dir_ok s old c (slice_get s.places c)
-step_facts s (Begin c dir) old = begin_ok s old c dir (slice_get s.places c)
-step_facts s (Before c refused) old = before_ok s old c refused (slice_get s.places c)
-step_facts s (ListNext c refused) old = list_next_ok s old c refused (slice_get s.places c) refl
-step_facts s (After c refused) old = after_ok s old c refused (slice_get s.places c) refl
-step_facts s (Seal c now room) old = seal_ok s old c now room (slice_get s.places c) refl
-step_facts s (Find c path) old = find_ok s old c path (slice_get s.places c)
-step_facts s (Get c) old = get_ok s old c (slice_get s.places c)
-step_facts s (Probe c refused) old = probe_ok s old c refused (slice_get s.places c)
-step_facts s (Drop c) old = drop_ok s old c (slice_get s.places c)
-step_facts s (Insert c path now) old = insert_ok s old c path now (slice_get s.places c)
-step_facts s (Purge now dots) old = purge_ok s now dots old
-step_facts s (Change tree) old = record { dots = record { below = old.dots.below; falling = old.dots.falling; counted = old.dots.counted }; table = old.table; numbered = old.numbered; places = old.places }
+step_facts s e old = turn_facts s e (turn s e) (fits s e) (each_turn s e) old
 
 pub run_facts : (s : State) (events : List Event) → FactsOk s → FactsOk (run s events)
 run_facts s [] old = old
@@ -298,7 +207,7 @@ facts_are_kept tree callers paths dots events =
     let s = run s0 events in
     record {
       folded = (run_ok s0 events (start_ok tree callers paths dots)).folded;
-      dots = record { below = facts.dots.below; falling = facts.dots.falling; counted = facts.dots.counted };
+      dots = facts.dots;
       numbers = record {
         table = facts.table;
         entries = facts.numbered;

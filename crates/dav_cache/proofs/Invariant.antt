@@ -1,5 +1,5 @@
 -- What each event keeps.
-use Rattle.std.proofs.Common.{◌≡◌, ◌≢◌, ℕ, zero, suc, ◌<◌, ◌≤◌, true, not, ◌&&◌, ◌||◌, List, [], ◌∷◌, Option, Some, None, refl, ap, ◌∙◌, arith, inl, inr, ◌⊎◌, IsTrue, Contains, slice_get, slice_set}
+use Rattle.std.proofs.Common.{◌≡◌, ◌≢◌, ℕ, ◌<◌, ◌≤◌, true, not, ◌&&◌, ◌||◌, List, Option, Some, None, refl, ap, ◌∙◌, arith, inl, inr, ◌⊎◌, IsTrue, Contains, slice_get}
 use Rattle.std.specs.Map.{lookup}
 use Rattle.std.specs.List.{list_any}
 use Rattle.dav_cache.specs.Trees.{Name, Names, FileTime, Tree, same_name, is_dot, is_after, has_name, time_of}
@@ -106,17 +106,3 @@ module _ (trees : List Tree) (same : SameNames trees) (A A' : ℕ → Names → 
       | inr ok ↦ ok
     ];
   }
-
--- ---- places
-
-pub get-set : (ps : List Place) (c i : ℕ) (p q : Place) → slice_get (slice_set ps c p) i ≡ Some q → ((i ≡ c) × (p ≡ q)) ⊎ (slice_get ps i ≡ Some q)
-get-set [] c i p q h = inr h
-get-set (r ∷ ps) zero zero p q h = inl (refl, cc)
-get-set (r ∷ ps) zero (suc i) p q h = inr h
-get-set (r ∷ ps) (suc c) zero p q h = inr h
-get-set (r ∷ ps) (suc c) (suc i) p q h = elim (get-set ps c i p q h) [ inl at ↦ inl (ap (λ n. suc n) at.0, at.1) | inr was ↦ inr was ]
-
-pub get-set_same : (ps : List Place) (c : ℕ) (p q : Place) → slice_get ps c ≡ Some q → slice_get (slice_set ps c p) c ≡ Some p
-get-set_same [] c p q h = cc
-get-set_same (r ∷ ps) zero p q h = refl
-get-set_same (r ∷ ps) (suc c) p q h = get-set_same ps c p q h

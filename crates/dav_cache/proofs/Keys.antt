@@ -1,5 +1,5 @@
 -- The tests of names, paths, keys and times decide equality.
-use Rattle.std.proofs.Common.{◌≡◌, ◌≢◌, Bool, true, false, Option, Some, None, refl, ap, inl, inr, ◌⊎◌}
+use Rattle.std.proofs.Common.{◌≡◌, ◌≢◌, Bool, true, false, Option, Some, None, refl, sym, ap, inl, inr, ◌⊎◌}
 use Rattle.std.specs.Bool.{Decides}
 use Rattle.std.specs.Option.{option_eq}
 use Rattle.std.specs.Ordering.{int_eq}
@@ -7,7 +7,7 @@ use Rattle.std.proofs.lemmas.Slice.Eq.{slice_eq-Decides, bytes_eq-Decides}
 use Rattle.std.proofs.lemmas.Bool.{and_parts, and_from, false≢true}
 use Rattle.std.proofs.lemmas.Bool.Decides.{Decides-eqb, Decides-int_eq}
 use Rattle.dav_cache.specs.Trees.{Name, Names, FileTime, same_name, same_path, same_time}
-use Rattle.dav_cache.specs.Entries.{DuKey, same_key, dir_key, name_key}
+use Rattle.dav_cache.specs.Entries.{DuKey, same_key, dir_key, name_key, is_time}
 
 pub name_decides : (a b : Name) → Decides (same_name a b) (a ≡ b)
 name_decides a b = bytes_eq-Decides a b
@@ -71,3 +71,7 @@ same_dir d e h = ap (λ (k : DuKey). k.dir) h
 
 pub same_member : (d e : Names) (x y : Name) → name_key d x ≡ name_key e y → x ≡ y
 same_member d e x y h = let n : Some x ≡ Some y = ap (λ (k : DuKey). k.name) h in cc
+
+pub is_time_at : (t : FileTime) (o : Option FileTime) → is_time t o ≡ true → o ≡ Some t
+is_time_at t None h = absurd (false≢true h)
+is_time_at t (Some u) h = ap Some (sym ((time_decides t u).0 h))

@@ -4,6 +4,8 @@ pub mod Dots
 pub mod Numbers
 pub mod Order
 pub mod Invariant
+pub mod Places
+pub mod Turns
 pub mod Steps
 pub mod Runs
 pub mod History

@@ -16,10 +16,9 @@ use Rattle.dav_cache.specs.Trees.{Name, Names, FileTime, same_name, same_path, f
 use Rattle.dav_cache.specs.Entries.{DuKey, DuEntry, Dots, Listed, PathEntry, PathCache, DotCache, AreCounted, Falling, without, put, purged, inserted, is_old_dot, is_old_path, dir_key, name_key, same_key, stands, concludes, is_time, put_name, put_dir, put_names, sealed}
 use Rattle.dav_cache.specs.Calls.{LooksBy, Denies, Seals, has_time, dropped, sealed_within}
 use Rattle.dav_cache.specs.Memory.{OwnedState, memory_of, known_at, known_by, WasKnown, LearnsNothing, AsksMeta, AsksOnceBy, Denied, GetsBy, Inserts, Negates, SealsIn, Purges}
-use Rattle.dav_cache.proofs.Keys.{time_decides, time_tells, path_tells, dir≢name, same_dir}
+use Rattle.dav_cache.proofs.Keys.{time_decides, is_time_at, time_tells, path_tells, dir≢name, same_dir}
 use Rattle.dav_cache.proofs.Lists.{lookup-without_same, lookup-take, purged-take}
 use Rattle.dav_cache.proofs.Dots.{IsApart, dir≢, name≢, lookup-away, lookup-past, stands-take, falling-without, Sealing, sealing-put_dir, sealing-put_name, sealing-put_names}
-use Rattle.dav_cache.proofs.Steps.{is_time_at}
 use Rattle.dav_cache.proofs.Facts.{nothing_known}
 
 -- ---- answers that are Ok

@@ -1,11 +1,12 @@
 -- The invariant holds along every run under the premises.
-use Rattle.std.proofs.Common.{◌≡◌, ◌≢◌, ℕ, zero, suc, ◌<◌, ◌≤◌, List, [], ◌∷◌, ◌++◌, length, Some, replicate, refl, inl, inr, subst, arith, Contains, slice_get}
+use Rattle.std.proofs.Common.{◌≡◌, ◌≢◌, ℕ, zero, suc, ◌<◌, ◌≤◌, List, [], ◌∷◌, ◌++◌, length, Some, refl, inl, inr, subst, arith, Contains}
 use Rattle.dav_cache.specs.Trees.{Names, FileTime, Tree, time_of}
-use Rattle.dav_cache.specs.Core.{Event, State, Place, step, run, start}
+use Rattle.dav_cache.specs.Core.{Event, State, step, run, start}
 use Rattle.dav_cache.specs.declared.event.Event.TheVariants.{Change}
 use Rattle.dav_cache.specs.declared.place.Place.TheVariants.{Idle, Lists}
 use Rattle.dav_cache.specs.Transparency.{SameNames, IsListing, NoReturn, IsFair, EntriesAreSound, ListingsAreRight, moment, changes, trees_of}
 use Rattle.dav_cache.proofs.Invariant.{PlaceOk, Inv}
+use Rattle.dav_cache.proofs.Places.{get-replicate}
 use Rattle.dav_cache.proofs.Steps.{KnowsTree, step_inv}
 
 -- ---- a time that was left, event by event
@@ -80,11 +81,6 @@ module _ (trees : List Tree) (same : SameNames trees) where
         carries = λ c d t away l. away.1 l;
         leaves = leaves e es s fair;
       }))
-
-pub get-replicate : (n c : ℕ) (p q : Place) → slice_get (replicate n p) c ≡ Some q → p ≡ q
-get-replicate zero c p q h = cc
-get-replicate (suc n) zero p q h = cc
-get-replicate (suc n) (suc c) p q h = get-replicate n c p q h
 
 pub start_inv : (trees : List Tree) (Away : ℕ → Names → FileTime → Type 0) (tree : Tree) (callers paths dots : ℕ) → Contains trees tree
     → Inv trees Away (start tree callers paths dots)

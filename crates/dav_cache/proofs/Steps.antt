@@ -1,21 +1,21 @@
 -- Each event keeps the invariant.
-use Rattle.std.proofs.Common.{◌≡◌, ℕ, ◌-◌, ◌^◌, Bool, true, false, not, ◌&&◌, List, [], Option, Some, None, if◌then◌else◌, nat_lt, refl, sym, ap, subst, ◌∙◌, arith, inl, inr, Contains, slice_get}
+use Rattle.std.proofs.Common.{◌≡◌, ℕ, ◌<◌, ◌≤◌, ◌⊎◌, Bool, true, false, ◌&&◌, List, [], Option, Some, None, if◌then◌else◌, refl, sym, ap, subst, ◌∙◌, arith, inl, inr, Contains, slice_get}
 use Rattle.std.specs.Map.{lookup}
 use Rattle.std.specs.List.{list_any}
 use Rattle.std.proofs.lemmas.Bool.{false≢true}
 use Rattle.std.proofs.Math.Bool.{and-true}
-use Rattle.dav_cache.specs.Trees.{Name, Names, FileTime, Tree, same_name, same_path, has_name, has_row, time_of, next_name, fold_path}
-use Rattle.dav_cache.specs.Entries.{DuEntry, Dots, PathEntry, Listed, without, put, purged, is_old_path, is_old_dot, promoted, sealed, dir_key, same_key, concludes, whole_seconds}
-use Rattle.dav_cache.specs.Core.{Event, Moment, State, Place, Told, Listing, goes, settled, one_time, is_time, time_told, ask, peeked, peek, check, conclude, drop_dir, begin, before, given, lists_next, list_next, after, new_dots, with_dots, seal, find, got, get, probe, drop, insert, purge, step}
-use Rattle.dav_cache.specs.declared.event.Event.TheVariants.{Ask, Peek, Check, Conclude, DropDir, Begin, Before, ListNext, After, Seal, Find, Get, Probe, Drop, Insert, Purge, Change}
+use Rattle.dav_cache.specs.Trees.{Name, Names, FileTime, Tree, same_name, has_name, time_of, next_name}
+use Rattle.dav_cache.specs.Entries.{DuEntry, Dots, Listed, is_old_dot, dir_key, same_key}
+use Rattle.dav_cache.specs.Core.{Event, State, Place, Turn, Listing, settled, one_time, is_time, time_told, given, lists_next, turn, step}
+use Rattle.dav_cache.specs.declared.event.Event.TheVariants.{Before, ListNext, Change}
 use Rattle.dav_cache.specs.declared.place.Place.TheVariants.{Idle, Asked, Peeked, Passed, Failed, Begun, Lists, Ended, Finding, Got, Missed}
-use Rattle.dav_cache.specs.declared.event.Told.TheVariants.{Nothing, Absent, Path, Misplaced}
-use Rattle.dav_cache.specs.Transparency.{SoundAt, SameNames}
-use Rattle.dav_cache.proofs.Keys.{time_decides, path_cases}
+use Rattle.dav_cache.specs.Transparency.{SoundAt, SameNames, fits}
+use Rattle.dav_cache.proofs.Keys.{is_time_at, path_cases}
 use Rattle.dav_cache.proofs.Lists.{purged-take, lookup-take}
 use Rattle.dav_cache.proofs.Dots.{AllBelow, Falling, below-lookup, below-take, below-without, falling-take, falling-without, sound-take, sound-dropped, kept-dropped, one-number, seals}
 use Rattle.dav_cache.proofs.Order.{HasUpTo, up_to_given, and_false}
-use Rattle.dav_cache.proofs.Invariant.{AreNamesOf, PlaceOk, Data, Inv, Keeps, Passing, holds_on, next, get-set, get-set_same}
+use Rattle.dav_cache.proofs.Invariant.{AreNamesOf, PlaceOk, Data, Inv, Keeps, Passing, holds_on, next}
+use Rattle.dav_cache.proofs.Turns.{DotsTurn, dots_stay, dir_goes, dots_age, dir_comes, Begins, GoesOn, Came, Made, Turned, misplaced, turned, each_turn}
 
 -- a tree that an event sets is one of these
 abbrev pub KnowsTree : List Tree → Event → Type 0
@@ -27,10 +27,6 @@ KnowsTree trees _ = Unit {0}
 pub told_time : (refused : Bool) (tree : Tree) (dir : Names) (t : FileTime) → time_told refused tree dir ≡ Some t → time_of tree dir ≡ Some t
 told_time true tree dir t h = cc
 told_time false tree dir t h = h
-
-pub is_time_at : (t : FileTime) (o : Option FileTime) → is_time t o ≡ true → o ≡ Some t
-is_time_at t None h = absurd (false≢true h)
-is_time_at t (Some u) h = ap Some (sym ((time_decides t u).0 h))
 
 one_time_parts : (before after : Option FileTime) (t : FileTime) → one_time before after ≡ Some t → (before ≡ Some t) × (after ≡ Some t)
 one_time_parts None after t h = cc
@@ -49,145 +45,54 @@ settled_parts l after t h =
       | false ↦ λ e. cc
     ]) h
 
--- ---- entries that an event leaves
+-- ---- the entries that a turn leaves
 
 module _ (trees : List Tree) where
-  -- the same entries, over the same tree
-  pub data_like : (s s' : State) → s'.tree ≡ s.tree → s'.dots ≡ s.dots → s'.next ≡ s.next → Data trees s → Data trees s'
-  data_like s s' t d n old = record {
-    known = subst (Contains trees) (sym t) old.known;
-    falling = subst Falling (sym d) old.falling;
-    below = rw (d, n) old.below;
-    sound = λ q. subst (λ w. SoundAt trees w q) (sym d) (old.sound q);
+  record Leaves (s : State) (dots : Dots) (next : ℕ) : Type 0 where
+    more : s.next ≤ next
+    falling : Falling dots
+    below : AllBelow next dots
+    sound : (d : Names) → SoundAt trees dots d
+    came : (d : Names) (e : DuEntry) → lookup (same_key (dir_key d)) dots ≡ Some e → (lookup (same_key (dir_key d)) s.dots ≡ Some e) ⊎ (s.next ≤ e.number)
+
+  dots_left : (s : State) → Data trees s
+      → ((c : ℕ) (l : Listing) (after : Option FileTime) (time : FileTime) → slice_get s.places c ≡ Some (Ended l after) → settled l after ≡ Some time → AreNamesOf trees l time)
+      → (dots : Dots) (next : ℕ) → DotsTurn s dots next → Leaves s dots next
+  dots_left s old are dots next dots_stay = record { more = omega arith; falling = old.falling; below = old.below; sound = old.sound; came = λ d e h. inl h }
+  dots_left s old are dots next (dir_goes dir) = record {
+    more = omega arith;
+    falling = falling-without (same_key (dir_key dir)) s.dots old.falling;
+    below = below-without s.next (same_key (dir_key dir)) s.dots old.below;
+    sound = λ d. sound-dropped trees dir d s.dots (old.sound d) (path_cases dir d);
+    came = λ d e h. inl (kept-dropped dir d s.dots e h);
   }
-
-pub keeps_like : (s s' : State) → s'.dots ≡ s.dots → s'.next ≡ s.next → Keeps s s'
-keeps_like s s' d n = record { more = omega arith; came = λ q e h. inl (subst (λ w. lookup (same_key (dir_key q)) w ≡ Some e) d h) }
-
-module _ (trees : List Tree) (same : SameNames trees) (A A' : ℕ → Names → FileTime → Type 0) where
-  still : (s : State) → Inv trees A s → Passing A A' s s → Inv trees A' s
-  still s inv pass = next trees same A A' s s inv pass inv.entries (keeps_like s s refl refl) (λ c p h. inl h)
-
-  -- one caller goes to another place
-  go : (s s1 : State) (c : ℕ) (p : Place) (t : Told) → s1.places ≡ s.places → Inv trees A s → Passing A A' s (goes s1 c p t).0 → Data trees s1
-      → Keeps s s1
-      → PlaceOk trees A' (goes s1 c p t).0 c p → Inv trees A' (goes s1 c p t).0
-  go s s1 c p t places inv pass data_ keeps ok =
-      next trees same A A' s (goes s1 c p t).0 inv pass (data_like trees s1 (goes s1 c p t).0 refl refl refl data_) (record { more = keeps.more; came = keeps.came })
-      (λ i q h. elim (get-set s1.places c i p q h) [
-        | inl at ↦ inr (subst (λ w. PlaceOk trees A' (goes s1 c p t).0 i w) at.1 (subst (λ j. PlaceOk trees A' (goes s1 c p t).0 j p) (sym at.0) ok))
-        | inr was ↦ inl (subst (λ w. slice_get w i ≡ Some q) places was)
-      ])
-
-  -- and the entries stay
-  goes_on : (s : State) (c : ℕ) (p : Place) (t : Told) → Inv trees A s → Passing A A' s (goes s c p t).0 → PlaceOk trees A' (goes s c p t).0 c p
-      → Inv trees A' (goes s c p t).0
-  goes_on s c p t inv pass ok = go s s c p t refl inv pass inv.entries (keeps_like s s refl refl) ok
-
-  -- ---- looking up a path
-
-  find_inv : (s : State) (c : ℕ) (path : Names) (o : Option Place) → Inv trees A s → Passing A A' s (find s c path o).0
-      → Inv trees A' (find s c path o).0
-  find_inv s c path (Some Idle) inv pass = goes_on s c (Finding path) Nothing inv pass tt
-  find_inv s c path _ inv pass = still s inv pass
-
-  got_inv : (s : State) (c : ℕ) (asked : Names) (o : Option PathEntry) → lookup (same_path (fold_path asked)) s.paths ≡ o → Inv trees A s
-      → Passing A A' s (got s c asked o).0 → Inv trees A' (got s c asked o).0
-  got_inv s c asked None h inv pass = goes_on s c Idle (Path None) inv pass tt
-  got_inv s c asked (Some e) h inv pass =
-      let old = inv.entries in
-      let s1 : State = record s { paths = promoted (fold_path asked) (Some e) s.paths } in
-      go s s1 c (Got asked e.path) Nothing refl inv pass
-      (record { known = old.known; falling = old.falling; below = old.below; sound = old.sound })
-      (keeps_like s s1 refl refl)
-      tt
-
-  get_inv : (s : State) (c : ℕ) (o : Option Place) → Inv trees A s → Passing A A' s (get s c o).0 → Inv trees A' (get s c o).0
-  get_inv s c (Some (Finding asked)) inv pass = got_inv s c asked (lookup (same_path (fold_path asked)) s.paths) refl inv pass
-  get_inv s c _ inv pass = still s inv pass
-
-  probe_inv : (s : State) (c : ℕ) (refused : Bool) (o : Option Place) → Inv trees A s → Passing A A' s (probe s c refused o).0
-      → Inv trees A' (probe s c refused o).0
-  probe_inv s c refused (Some (Got asked path)) inv =
-      (elim (not refused && has_row s.tree path) as (λ b. Passing A A' s (if b then goes s c Idle (Path (Some path)) else goes s c (Missed asked) Nothing).0 → Inv trees A' (if b then goes s c Idle (Path (Some path)) else goes s c (Missed asked) Nothing).0) [
-        | true ↦ λ pass. goes_on s c Idle (Path (Some path)) inv pass tt
-        | false ↦ λ pass. goes_on s c (Missed asked) Nothing inv pass tt
-      ])
-  probe_inv s c refused _ inv = λ pass. still s inv pass
-
-  drop_inv : (s : State) (c : ℕ) (o : Option Place) → Inv trees A s → Passing A A' s (drop s c o).0 → Inv trees A' (drop s c o).0
-  drop_inv s c (Some (Missed asked)) inv pass =
-      let old = inv.entries in
-      let s1 : State = record s { paths = without (same_path (fold_path asked)) s.paths } in
-      go s s1 c Idle (Path None) refl inv pass
-      (record { known = old.known; falling = old.falling; below = old.below; sound = old.sound })
-      (keeps_like s s1 refl refl)
-      tt
-  drop_inv s c _ inv pass = still s inv pass
-
-  insert_inv : (s : State) (c : ℕ) (path : Names) (now : Moment) (o : Option Place) → Inv trees A s → Passing A A' s (insert s c path now o).0
-      → Inv trees A' (insert s c path now o).0
-  insert_inv s c path now (Some Idle) inv pass =
-      let old = inv.entries in
-      let s1 : State = record s { paths = put s.paths_size (same_path (fold_path path)) (fold_path path) (record { path = path; secs = whole_seconds now.0 }) s.paths } in
-      go s s1 c Idle Nothing refl inv pass
-      (record {
-        known = old.known;
-        falling = old.falling;
-        below = old.below;
-        sound = old.sound;
-      })
-      (keeps_like s s1 refl refl)
-      tt
-  insert_inv s c path now _ inv pass = still s inv pass
-
-  purge_inv : (s : State) (now : Moment) (dots : Bool) → Inv trees A s → Passing A A' s (purge s now dots).0 → Inv trees A' (purge s now dots).0
-  purge_inv s now true inv pass =
-      let old = inv.entries in
+  dots_left s old are dots next (dots_age now) =
       let is = purged-take (is_old_dot now) s.dots in
-      let s1 : State = record s { dots = purged (is_old_dot now) s.dots } in
-      next trees same A A' s s1 inv pass
-      (record {
-        known = old.known;
+      record {
+        more = omega arith;
         falling = subst Falling (sym is.1) (falling-take is.0 s.dots old.falling);
         below = subst (AllBelow s.next) (sym is.1) (below-take s.next is.0 s.dots old.below);
         sound = λ d. subst (λ w. SoundAt trees w d) (sym is.1) (sound-take trees is.0 s.dots d old.falling (old.sound d));
-      })
-      (record { more = omega arith; came = λ d e h. inl (lookup-take (same_key (dir_key d)) is.0 s.dots e (subst (λ w. lookup (same_key (dir_key d)) w ≡ Some e) is.1 h)) })
-      (λ c p h. inl h)
-  purge_inv s now false inv pass =
-      let old = inv.entries in
-      let is = purged-take (is_old_path now) s.paths in
-      let s1 : State = record s { paths = purged (is_old_path now) s.paths } in
-      next trees same A A' s s1 inv pass
-      (record { known = old.known; falling = old.falling; below = old.below; sound = old.sound })
-      (keeps_like s s1 refl refl)
-      (λ c p h. inl h)
+        came = λ d e h. inl (lookup-take (same_key (dir_key d)) is.0 s.dots e (subst (λ w. lookup (same_key (dir_key d)) w ≡ Some e) is.1 h));
+      }
+  dots_left s old are dots next (dir_comes c l after time now room at is) =
+      let listed : Listed = record { dir = l.dir; time = time; moment = now; number = s.next } in
+      let done = seals trees s.dots_size s.dots listed l.names room old.falling old.below old.sound (are c l after time at is) in
+      record {
+        more = omega arith;
+        falling = done.falling;
+        below = done.below;
+        sound = done.sound;
+        came = λ d e h. elim (done.came d e h) [ inl was ↦ inl was | inr new ↦ inr (let n : e.number ≡ s.next = new in omega arith) ];
+      }
 
-  change_inv : (s : State) (tree : Tree) → Contains trees tree → Inv trees A s → Passing A A' s (record s { tree = tree })
-      → Inv trees A' (record s { tree = tree })
-  change_inv s tree known inv pass =
-      let old = inv.entries in
-      let s1 : State = record s { tree = tree } in
-      next trees same A A' s s1 inv pass
-      (record { known = known; falling = old.falling; below = old.below; sound = old.sound })
-      (keeps_like s s1 refl refl)
-      (λ c p h. inl h)
+-- ---- a place that a caller comes to
 
-  -- ---- listing a directory
+-- the tree stays, where the event sets none
+same_tree : (s t : State) (e : Event) → Made s e t → ((tree : Tree) → e ≡ Change tree → ⊥) → t.tree ≡ s.tree
+same_tree s t e made other = elim made.tree [ inl same ↦ same | inr is ↦ absurd (other t.tree is) ]
 
-  begin_inv : (s : State) (c : ℕ) (dir : Names) (o : Option Place) → Inv trees A s → Passing A A' s (begin s c dir o).0
-      → Inv trees A' (begin s c dir o).0
-  begin_inv s c dir (Some Idle) inv pass = goes_on s c (Begun dir) Nothing inv pass tt
-  begin_inv s c dir _ inv pass = still s inv pass
-
-  before_inv : (s : State) (c : ℕ) (refused : Bool) (o : Option Place) → Inv trees A s → Passing A A' s (before s c refused o).0
-      → Inv trees A' (before s c refused o).0
-  before_inv s c refused (Some (Begun dir)) inv pass =
-      goes_on s c (Lists (record { dir = dir; before = time_told refused s.tree dir; last = None; names = []; ended = false; whole = true })) Nothing inv pass
-      (λ whole t is. inl (told_time refused s.tree dir t is, λ x dot. and_false (has_name s.tree dir x)))
-  before_inv s c refused _ inv pass = still s inv pass
-
+module _ (trees : List Tree) (same : SameNames trees) (A A' : ℕ → Names → FileTime → Type 0) where
   given_ok : (s s' : State) (c : ℕ) (l : Listing) (o : Option Name) → s'.tree ≡ s.tree → next_name s.tree l.dir l.last ≡ o → l.ended ≡ false
       → slice_get s'.places c ≡ Some (Lists (given l o))
       → Passing A A' s s' → PlaceOk trees A s c (Lists l) → PlaceOk trees A' s' c (Lists (given l o))
@@ -206,126 +111,70 @@ module _ (trees : List Tree) (same : SameNames trees) (A A' : ℕ → Names → 
   lists_next_ok s s' c l None tree open_ here pass ok = λ whole t before. absurd (false≢true whole)
   lists_next_ok s s' c l (Some u) tree open_ here pass ok = given_ok s s' c l (next_name s.tree l.dir l.last) tree refl open_ here pass ok
 
-  list_next_inv : (s : State) (c : ℕ) (refused : Bool) (o : Option Place) → slice_get s.places c ≡ o → Inv trees A s
-      → Passing A A' s (list_next s c refused o).0 → Inv trees A' (list_next s c refused o).0
-  list_next_inv s c refused (Some (Lists l)) h inv =
-      let p : Place = Lists (lists_next s.tree l (time_told refused s.tree l.dir)) in
-      (elim (l.ended) as (λ b. l.ended ≡ b → Passing A A' s (if b then (s, Misplaced) else goes s c p Nothing).0 → Inv trees A' (if b then (s, Misplaced) else goes s c p Nothing).0) [
-        | true ↦ λ e pass. still s inv pass
-        | false ↦ λ e pass. goes_on s c p Nothing inv pass (lists_next_ok s (goes s c p Nothing).0 c l (time_told refused s.tree l.dir) refl e (get-set_same s.places c p (Lists l) h) pass (inv.places c (Lists l) h))
-      ]) refl
-  list_next_inv s c refused _ h inv = λ pass. still s inv pass
+  module _ (s : State) (e : Event) (t : State) (made : Made s e t) (inv : Inv trees A s) (pass : Passing A A' s t) (keeps : Keeps s t) (c : ℕ) where
+    begins_ok : (l : Listing) → Begins s e c l → PlaceOk trees A' t c (Lists l)
+    begins_ok l (refused, by_before, is) =
+        let tree = same_tree s t e made (λ w by_change. let no_ : Before c refused ≡ Change w = sym by_before ∙ by_change in cc) in
+        let first : Listing = record { dir = l.dir; before = time_told refused s.tree l.dir; last = None; names = []; ended = false; whole = true } in
+        let ok : PlaceOk trees A' t c (Lists first) = λ whole time was. inl (
+          ap (λ w. time_of w l.dir) tree ∙ told_time refused s.tree l.dir time was,
+          λ x dot. and_false (has_name t.tree l.dir x),
+        ) in
+        subst (λ w. PlaceOk trees A' t c (Lists w)) (sym is) ok
 
-  after_inv : (s : State) (c : ℕ) (refused : Bool) (o : Option Place) → slice_get s.places c ≡ o → Inv trees A s
-      → Passing A A' s (after s c refused o).0 → Inv trees A' (after s c refused o).0
-  after_inv s c refused (Some (Lists l)) h inv =
-      let o = time_told refused s.tree l.dir in
-      (elim (l.ended) as (λ b. l.ended ≡ b → Passing A A' s (if b then goes s c (Ended l o) Nothing else (s, Misplaced)).0 → Inv trees A' (if b then goes s c (Ended l o) Nothing else (s, Misplaced)).0) [
-        | true ↦ λ e pass. goes_on s c (Ended l o) Nothing inv pass (λ t is.
-            let parts = settled_parts l o t is in
-            let now = told_time refused s.tree l.dir t parts.2 in
-            elim (inv.places c (Lists l) h parts.0 t parts.1) [
-              | inl going ↦ λ tree known at x dot.
-                  let all : list_any (same_name x) l.names ≡ (has_name s.tree l.dir x && true) = rw e at (going.1 x dot) in
-                  same tree s.tree known inv.entries.known l.dir t at now x ∙ sym (all ∙ and-true (has_name s.tree l.dir x))
-              | inr away ↦ absurd (pass.gone c l.dir t away now)
-            ])
-        | false ↦ λ e pass. still s inv pass
-      ]) refl
-  after_inv s c refused _ h inv = λ pass. still s inv pass
+    goes_on_ok : (l : Listing) → slice_get t.places c ≡ Some (Lists l) → GoesOn s e c l → PlaceOk trees A' t c (Lists l)
+    goes_on_ok l here (refused, by_next, was, at, open_, is) =
+        let tree = same_tree s t e made (λ w by_change. let no_ : ListNext c refused ≡ Change w = sym by_next ∙ by_change in cc) in
+        let now : slice_get t.places c ≡ Some (Lists (lists_next s.tree was (time_told refused s.tree was.dir))) = here ∙ ap (λ w. Some (Lists w)) is in
+        subst (λ w. PlaceOk trees A' t c (Lists w)) (sym is)
+        (lists_next_ok s t c was (time_told refused s.tree was.dir) tree open_ now pass (inv.places c (Lists was) at))
 
-  with_dots_inv : (s : State) (c : ℕ) (l : Listing) (now : Moment) (room : ℕ) (o : Option FileTime)
-      → ((t : FileTime) → o ≡ Some t → AreNamesOf trees l t) → Inv trees A s
-      → Passing A A' s (goes (with_dots s (new_dots s l now room o)) c Idle Nothing).0
-      → Inv trees A' (goes (with_dots s (new_dots s l now room o)) c Idle Nothing).0
-  unfolding new_dots
-  with_dots_inv s c l now room None are inv = λ pass. goes_on s c Idle Nothing inv pass tt
-  with_dots_inv s c l now room (Some t) are inv =
-      let old = inv.entries in
-      let listed : Listed = record { dir = l.dir; time = t; moment = now; number = s.next } in
-      let after_ : Dots = sealed s.dots_size listed l.names room s.dots in
-      let done = seals trees s.dots_size s.dots listed l.names room old.falling old.below old.sound (are t refl) in
-      (elim (nat_lt s.next (2 ^ 64 - 1)) as (λ b. Passing A A' s (goes (with_dots s (if b then Some after_ else None)) c Idle Nothing).0 → Inv trees A' (goes (with_dots s (if b then Some after_ else None)) c Idle Nothing).0) [
-        | true ↦ λ pass. go s (with_dots s (Some after_)) c Idle Nothing refl inv pass
-            (record { known = old.known; falling = done.falling; below = done.below; sound = done.sound })
-            (record { more = omega arith; came = λ d e h. elim (done.came d e h) [ inl was ↦ inl was | inr new ↦ inr (let n : e.number ≡ s.next = new in omega arith) ] })
-            tt
-        | false ↦ λ pass. goes_on s c Idle Nothing inv pass tt
-      ])
+    -- the directory had one time before and after, so that its listing has all names
+    ended_ok : (l : Listing) (after : Option FileTime) → Came s e c (Ended l after) → PlaceOk trees A' t c (Ended l after)
+    ended_ok l after (refused, by_after, at, ended, is) = λ time found.
+        let parts = settled_parts l after time found in
+        let now = told_time refused s.tree l.dir time (sym is ∙ parts.2) in
+        elim (inv.places c (Lists l) at parts.0 time parts.1) [
+          | inl going ↦ λ tree known had x dot.
+              let all : list_any (same_name x) l.names ≡ (has_name s.tree l.dir x && true) = rw ended at (going.1 x dot) in
+              same tree s.tree known inv.entries.known l.dir time had now x ∙ sym (all ∙ and-true (has_name s.tree l.dir x))
+          | inr away ↦ absurd (pass.gone c l.dir time away now)
+        ]
 
-  seal_inv : (s : State) (c : ℕ) (now : Moment) (room : ℕ) (o : Option Place) → slice_get s.places c ≡ o → Inv trees A s
-      → Passing A A' s (seal s c now room o).0 → Inv trees A' (seal s c now room o).0
-  seal_inv s c now room (Some (Ended l after)) h inv = with_dots_inv s c l now room (settled l after) (inv.places c (Ended l after) h) inv
-  seal_inv s c now room _ h inv = λ pass. still s inv pass
+    came_ok : (p : Place) → slice_get t.places c ≡ Some p → Came s e c p → PlaceOk trees A' t c p
+    came_ok Idle here came = tt
+    came_ok (Asked dir name) here came = tt
+    came_ok (Peeked dir name number time) here came =
+        let (by_peek, from, entry, found, is, at) = came in
+        holds_on s t dir number time keeps (record {
+          given = subst (λ n. n < s.next) is (below-lookup s.next (same_key (dir_key dir)) s.dots entry inv.entries.below found);
+          one = λ d other there number_.
+              let one = one-number s.dots dir d entry other inv.entries.falling found there (number_ ∙ sym is) in
+              (one.0, one.1 ∙ at);
+        })
+    came_ok (Passed dir name number time) here came = holds_on s t dir number time keeps (inv.places c (Peeked dir name number time) came.1)
+    came_ok (Failed dir) here came = tt
+    came_ok (Begun dir) here came = tt
+    came_ok (Lists l) here came = elim came [ inl begins ↦ begins_ok l begins | inr on ↦ goes_on_ok l here on ]
+    came_ok (Ended l after) here came = ended_ok l after came
+    came_ok (Finding path) here came = tt
+    came_ok (Got asked path) here came = tt
+    came_ok (Missed asked) here came = tt
 
-  -- ---- asking whether a name is absent
+  -- ---- a turn
 
-  ask_inv : (s : State) (c : ℕ) (dir : Names) (name : Name) (o : Option Place) → Inv trees A s → Passing A A' s (ask s c dir name o).0
-      → Inv trees A' (ask s c dir name o).0
-  ask_inv s c dir name (Some Idle) inv pass = goes_on s c (Asked dir name) Nothing inv pass tt
-  ask_inv s c dir name _ inv pass = still s inv pass
-
-  peeked_inv : (s : State) (c : ℕ) (dir : Names) (name : Name) (o : Option DuEntry) → lookup (same_key (dir_key dir)) s.dots ≡ o → Inv trees A s
-      → Passing A A' s (peeked s c dir name o).0 → Inv trees A' (peeked s c dir name o).0
-  peeked_inv s c dir name None h inv pass = goes_on s c Idle (Absent false) inv pass tt
-  peeked_inv s c dir name (Some e) h inv pass =
-      let old = inv.entries in
-      goes_on s c (Peeked dir name e.number e.time) Nothing inv pass
-      (record {
-        given = below-lookup s.next (same_key (dir_key dir)) s.dots e old.below h;
-        one = λ d e' h' same'. one-number s.dots dir d e e' old.falling h h' same';
-      })
-
-  peek_inv : (s : State) (c : ℕ) (o : Option Place) → Inv trees A s → Passing A A' s (peek s c o).0 → Inv trees A' (peek s c o).0
-  peek_inv s c (Some (Asked dir name)) inv pass = peeked_inv s c dir name (lookup (same_key (dir_key dir)) s.dots) refl inv pass
-  peek_inv s c _ inv pass = still s inv pass
-
-  check_inv : (s : State) (c : ℕ) (refused : Bool) (o : Option Place) → slice_get s.places c ≡ o → Inv trees A s
-      → Passing A A' s (check s c refused o).0 → Inv trees A' (check s c refused o).0
-  check_inv s c refused (Some (Peeked dir name number t)) h inv =
-      (elim (is_time t (time_told refused s.tree dir)) as (λ b. Passing A A' s (goes s c (if b then Passed dir name number t else Failed dir) Nothing).0 → Inv trees A' (goes s c (if b then Passed dir name number t else Failed dir) Nothing).0) [
-        | true ↦ λ pass. goes_on s c (Passed dir name number t) Nothing inv pass
-            (holds_on s (goes s c (Passed dir name number t) Nothing).0 dir number t (keeps_like s (goes s c (Passed dir name number t) Nothing).0 refl refl) (inv.places c (Peeked dir name number t) h))
-        | false ↦ λ pass. goes_on s c (Failed dir) Nothing inv pass tt
-      ])
-  check_inv s c refused _ h inv = λ pass. still s inv pass
-
-  conclude_inv : (s : State) (c : ℕ) (o : Option Place) → Inv trees A s → Passing A A' s (conclude s c o).0 → Inv trees A' (conclude s c o).0
-  conclude_inv s c (Some (Passed dir name number t)) inv pass = goes_on s c Idle (Absent (concludes s.dots dir name number)) inv pass tt
-  conclude_inv s c _ inv pass = still s inv pass
-
-  drop_dir_inv : (s : State) (c : ℕ) (o : Option Place) → Inv trees A s → Passing A A' s (drop_dir s c o).0 → Inv trees A' (drop_dir s c o).0
-  drop_dir_inv s c (Some (Failed dir)) inv pass =
-      let old = inv.entries in
-      let s1 : State = record s { dots = without (same_key (dir_key dir)) s.dots } in
-      go s s1 c Idle (Absent false) refl inv pass
-      (record {
-        known = old.known;
-        falling = falling-without (same_key (dir_key dir)) s.dots old.falling;
-        below = below-without s.next (same_key (dir_key dir)) s.dots old.below;
-        sound = λ d. sound-dropped trees dir d s.dots (old.sound d) (path_cases dir d);
-      })
-      (record { more = omega arith; came = λ d e h. inl (kept-dropped dir d s.dots e h) })
-      tt
-  drop_dir_inv s c _ inv pass = still s inv pass
-
-  -- ---- all events
+  turn_inv : (s : State) (e : Event) (t : Turn) (b : Bool) → Turned s e t b → KnowsTree trees e → Inv trees A s → Passing A A' s t.0 → Inv trees A' t.0
+  turn_inv s e t b misplaced known inv pass =
+      next trees same A A' s s inv pass inv.entries (record { more = omega arith; came = λ d e h. inl h }) (λ c p h. inl h)
+  turn_inv s e t b (turned u tells made) known inv pass =
+      let left = dots_left trees s inv.entries (λ c l after time at. inv.places c (Ended l after) at time) u.0.dots u.0.next made.dots in
+      let keeps : Keeps s u.0 = record { more = left.more; came = left.came } in
+      let known_ : Contains trees u.0.tree = elim made.tree [
+        | inl tree ↦ subst (Contains trees) (sym tree) inv.entries.known
+        | inr is ↦ subst (KnowsTree trees) is known
+      ] in
+      next trees same A A' s u.0 inv pass (record { known = known_; falling = left.falling; below = left.below; sound = left.sound }) keeps
+      (λ c p h. elim (made.places c p h) [ inl (was, other) ↦ inl was | inr (mine, came) ↦ inr (came_ok s e u.0 made inv pass keeps c p h came) ])
 
   pub step_inv : (s : State) (event : Event) → KnowsTree trees event → Inv trees A s → Passing A A' s (step s event) → Inv trees A' (step s event)
-  step_inv s (Ask c dir name) known inv pass = ask_inv s c dir name (slice_get s.places c) inv pass
-  step_inv s (Peek c) known inv pass = peek_inv s c (slice_get s.places c) inv pass
-  step_inv s (Check c refused) known inv pass = check_inv s c refused (slice_get s.places c) refl inv pass
-  step_inv s (Conclude c) known inv pass = conclude_inv s c (slice_get s.places c) inv pass
-  step_inv s (DropDir c) known inv pass = drop_dir_inv s c (slice_get s.places c) inv pass
-  step_inv s (Begin c dir) known inv pass = begin_inv s c dir (slice_get s.places c) inv pass
-  step_inv s (Before c refused) known inv pass = before_inv s c refused (slice_get s.places c) inv pass
-  step_inv s (ListNext c refused) known inv pass = list_next_inv s c refused (slice_get s.places c) refl inv pass
-  step_inv s (After c refused) known inv pass = after_inv s c refused (slice_get s.places c) refl inv pass
-  step_inv s (Seal c now room) known inv pass = seal_inv s c now room (slice_get s.places c) refl inv pass
-  step_inv s (Find c path) known inv pass = find_inv s c path (slice_get s.places c) inv pass
-  step_inv s (Get c) known inv pass = get_inv s c (slice_get s.places c) inv pass
-  step_inv s (Probe c refused) known inv pass = probe_inv s c refused (slice_get s.places c) inv pass
-  step_inv s (Drop c) known inv pass = drop_inv s c (slice_get s.places c) inv pass
-  step_inv s (Insert c path now) known inv pass = insert_inv s c path now (slice_get s.places c) inv pass
-  step_inv s (Purge now dots) known inv pass = purge_inv s now dots inv pass
-  step_inv s (Change tree) known inv pass = change_inv s tree known inv pass
+  step_inv s event known inv pass = turn_inv s event (turn s event) (fits s event) (each_turn s event) known inv pass
