@@ -1,5 +1,5 @@
 // The steps by which a path's text is read.
-ghost use Rattle.std.specs.Prelude.{◌≡◌, ◌≢◌, ◌==◌, ◌&&◌, IfOk, IfErr, OnOk, OnErr, Ok, Err, map, true, false, length, ◌≤◌};
+ghost use Rattle.std.specs.Prelude.{◌≡◌, ◌≢◌, ◌==◌, ◌&&◌, ◌++◌, IfOk, IfErr, OnOk, OnErr, Ok, Err, map, true, false, length, ◌≤◌};
 ghost use Rattle.std.specs.List.{list_all, position_or_len};
 ghost use Rattle.std.specs.Str.{is_utf8};
 ghost use Rattle.percent_encoding.specs.Percent.{percent_decode as decoding};
@@ -159,13 +159,25 @@ fn text_of(bytes: Vec<u8>) -> Result<Text, ParseError>
     }
 }
 
+// Appends what a segment says. Without a `%` that is the segment itself.
+fn append_decoded(bytes: &mut Vec<u8>, segment: &[u8]) -> Result<(), NoMemory>
+    ensures { OnOk result (bytes.new.items ≡ bytes.old.items ++ decoding segment.now) }
+{
+    if segment.contains(&b'%') {
+        percent_decode(segment).append_to(bytes)?;
+    } else {
+        bytes.extend_from_slice(segment)?;
+    }
+    Ok(())
+}
+
 // The name that a kept segment says.
 pub fn decoded(alloc: Global, segment: &[u8]) -> Result<Text, ParseError>
     ensures ok { IfOk result (λ name. grammar.decoded segment.now ≡ Ok name) }
     ensures err { IfErr result (λ e. e ≢ ParseError.NoMemory → grammar.decoded segment.now ≡ Err e) }
 {
     let mut bytes = Vec::with_capacity(alloc, segment.len())?;
-    percent_decode(segment).append_to(&mut bytes)?;
+    append_decoded(&mut bytes, segment)?;
     name_of(bytes)
 }
 
