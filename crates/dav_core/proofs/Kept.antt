@@ -7,7 +7,7 @@ use Rattle.percent_encoding.specs.Percent.{percent_decode}
 use Rattle.dav_core.specs.declared.parse_error.ParseError.{ParseError}
 use Rattle.dav_core.specs.declared.parse_error.ParseError.TheVariants.{InvalidPath, NotText}
 use Rattle.dav_core.specs.Path.{Names, parent_of, is_plain, all_plain}
-use Rattle.dav_core.specs.Grammar.{and_then, is_skipped, is_up, Left, with_name, with_segment, left_of, kept_if, kept_of, without_last, keep, decoded, all_decoded}
+use Rattle.dav_core.specs.Grammar.{and_then, is_skipped, is_up, Left, with_name, with_segment, left_of, kept_if, kept_of, without_last, keep, decoded, all_decoded, names_in}
 use Rattle.dav_core.proofs.Paths.{parent_cons}
 
 abbrev left : ℕ → Names → Left
@@ -134,3 +134,16 @@ all_plain_of (s ∷ kept) names e = both (decoded s) (all_decoded kept) names (�
 pub plain_names : {A : Type 0} (kept : Names) (r : Result A ParseError) (items : A → Names) → IfOk r (λ names. all_decoded kept ≡ Ok (items names)) → IfOk r (λ names. all_plain (items names) ≡ true)
 plain_names kept (Ok names) items e = all_plain_of kept (items names) e
 plain_names kept (Err e) items h = tt
+
+pub said_plain : (segments names : Names) → names_in segments ≡ Ok names → all_plain names ≡ true
+said_plain segments names e = by_kept (kept_of segments) e
+  where
+    by_kept : (r : Result Names ParseError) → and_then r all_decoded ≡ Ok names → all_plain names ≡ true
+    by_kept (Ok kept) e = all_plain_of kept names e
+    by_kept (Err fault) e = cc
+
+-- ---- a walk over segments
+
+-- where nothing is left, the names are those of all segments
+pub said_all : (all left names : Names) → left ≡ [] → ((more : Names) → names_in left ≡ Ok more → names_in all ≡ Ok (names ++ more)) → names_in all ≡ Ok names
+said_all all left names none walked = walked [] (ap names_in none) ∙ ap Ok (append-nil names)

@@ -1,6 +1,8 @@
 pub mod Hex
 pub mod Dots
 pub mod Kept
+pub mod CutSegments
+pub mod Undecoded
 pub mod Utf8
 pub mod Fits
 pub mod Links

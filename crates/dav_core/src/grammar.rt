@@ -1,5 +1,5 @@
 // The steps by which a path's text is read.
-ghost use Rattle.std.specs.Prelude.{◌≡◌, ◌≢◌, ◌==◌, ◌&&◌, IfOk, IfErr, OnOk, OnErr, Ok, Err, map, true, false, length, ◌≤◌};
+ghost use Rattle.std.specs.Prelude.{◌≡◌, ◌≢◌, ◌==◌, ◌&&◌, ◌++◌, IfOk, IfErr, OnOk, OnErr, Ok, Err, map, true, false, length, ◌≤◌};
 ghost use Rattle.std.specs.List.{list_all, position_or_len};
 ghost use Rattle.std.specs.Str.{is_utf8};
 ghost use Rattle.percent_encoding.specs.Percent.{percent_decode as decoding};
@@ -13,13 +13,13 @@ use dav_io::{NoMemory, Text};
 use percent_encoding::percent_decode;
 use std::alloc::Global;
 
-// The place of the first `?`, or the length where there is none.
-fn query_at(text: &[u8]) -> usize
-    ensures first { result ≡ position_or_len (λ b. b == 63) text.now }
+// The first place of a byte, or the length where it stands nowhere.
+pub fn place_of(byte: u8, text: &[u8]) -> usize
+    ensures first { result ≡ position_or_len (λ b. b == byte) text.now }
     ensures within { result ≤ length text.now }
 {
     for (at, b) in text.iter().enumerate() {
-        if *b == b'?' {
+        if *b == byte {
             return at;
         }
     }
@@ -30,7 +30,7 @@ fn query_at(text: &[u8]) -> usize
 pub fn before_query(text: &[u8]) -> &[u8]
     ensures { result.now ≡ grammar.before_query text.now }
 {
-    let (front, _) = text.split_at(query_at(text));
+    let (front, _) = text.split_at(place_of(b'?', text));
     front
 }
 
@@ -159,13 +159,25 @@ fn text_of(bytes: Vec<u8>) -> Result<Text, ParseError>
     }
 }
 
+// Appends what a segment says. Without a `%` that is the segment itself.
+fn append_decoded(bytes: &mut Vec<u8>, segment: &[u8]) -> Result<(), NoMemory>
+    ensures { OnOk result (bytes.new.items ≡ bytes.old.items ++ decoding segment.now) }
+{
+    if segment.contains(&b'%') {
+        percent_decode(segment).append_to(bytes)?;
+    } else {
+        bytes.extend_from_slice(segment)?;
+    }
+    Ok(())
+}
+
 // The name that a kept segment says.
-fn decoded(alloc: Global, segment: &[u8]) -> Result<Text, ParseError>
+pub fn decoded(alloc: Global, segment: &[u8]) -> Result<Text, ParseError>
     ensures ok { IfOk result (λ name. grammar.decoded segment.now ≡ Ok name) }
     ensures err { IfErr result (λ e. e ≢ ParseError.NoMemory → grammar.decoded segment.now ≡ Err e) }
 {
     let mut bytes = Vec::with_capacity(alloc, segment.len())?;
-    percent_decode(segment).append_to(&mut bytes)?;
+    append_decoded(&mut bytes, segment)?;
     name_of(bytes)
 }
 

@@ -26,11 +26,13 @@ mod parsing;
 mod path;
 mod plain_name;
 mod prefix;
+mod segments;
 mod tag;
 pub mod tag_laws;
 mod time;
 mod tree;
 mod url;
+mod usual;
 
 pub use blanks::trimmed;
 pub use change::{Batch, Change};

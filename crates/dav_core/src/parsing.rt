@@ -1,11 +1,13 @@
 // The path that a text gives.
-ghost use Rattle.std.specs.Prelude.{◌≡◌, ◌≢◌, ◌||◌, ◌==◌, ◌≤◌, IfOk, IfErr, Ok, Err, map, option_map, true, take, drop, length};
+ghost use Rattle.std.specs.Prelude.{◌≡◌, ◌≢◌, ◌||◌, ◌==◌, ◌≤◌, IfOk, IfErr, Ok, Err, option_map, true, take, drop, length};
 ghost use Rattle.dav_core.specs.Grammar as grammar;
 ghost use Rattle.dav_core.specs.Path.{all_plain, is_dots as the_is_dots};
 
-use crate::grammar::{before_query, is_readable, names_in, segments};
+use crate::grammar::{before_query, is_readable};
 use crate::plain_name::is_dots;
 use crate::prefix::{begins_with, prefix_names};
+use crate::segments::last_segment;
+use crate::usual::names_of;
 use crate::{DavPath, FsPath, ParseError};
 use dav_io::{NoMemory, Text};
 use std::alloc::Global;
@@ -20,17 +22,14 @@ fn ends(segment: &[u8]) -> bool
     is_dots(segment)
 }
 
-// Whether segments give a path of these names a final slash.
-fn has_slash(segments: &[&[u8]], names: &[Text]) -> bool
-    ensures { result ≡ grammar.has_slash (map (λ s. s.now) segments.now) names.now }
+// Whether a text gives a path of these names a final slash.
+fn has_slash(text: &[u8], names: &[Text]) -> bool
+    ensures { result ≡ grammar.has_slash (grammar.segments text.now) names.now }
 {
     if names.is_empty() {
         return true;
     }
-    match segments.last() {
-        Some(segment) => ends(*segment),
-        None => false,
-    }
+    ends(last_segment(text))
 }
 
 // The names behind so many. Where that is all of them they aren't moved.
@@ -45,23 +44,23 @@ fn behind(mut names: Vec<Text>, count: usize) -> Result<Vec<Text>, NoMemory>
     Ok(rest)
 }
 
-// The path of all names, the prefix's first.
+// The path of all names that a text says, the prefix's first.
 fn placed(
     alloc: Global,
-    segments: &[&[u8]],
+    text: &[u8],
     prefix: Vec<Text>,
     all: Vec<Text>,
 ) -> Result<DavPath, ParseError>
     requires { all_plain all.items ≡ true }
-    ensures ok { IfOk result (λ path. grammar.placed (map (λ s. s.now) segments.now) prefix.items all.items ≡ Ok path) }
+    ensures ok { IfOk result (λ path. grammar.placed (grammar.segments text.now) prefix.items all.items ≡ Ok path) }
     ensures err { IfErr result (λ fault. fault ≢ ParseError.NoMemory
-        → grammar.placed (map (λ s. s.now) segments.now) prefix.items all.items ≡ Err fault) }
+        → grammar.placed (grammar.segments text.now) prefix.items all.items ≡ Err fault) }
 {
     if !begins_with(all.as_slice(), prefix.as_slice()) {
         return Err(ParseError::PrefixMismatch);
     }
     let names = behind(all, prefix.len())?;
-    let slash = has_slash(segments, names.as_slice());
+    let slash = has_slash(text, names.as_slice());
     Ok(DavPath::of_parts(alloc, FsPath::new(prefix), FsPath::new(names), slash))
 }
 
@@ -74,11 +73,10 @@ pub fn read(alloc: Global, src: &str, prefix: &str) -> Result<DavPath, ParseErro
     if !is_readable(cut) {
         return Err(ParseError::InvalidPath);
     }
-    let segments = segments(alloc, cut)?;
-    let all = match names_in(alloc, segments.as_slice()) {
+    let all = match names_of(alloc, cut) {
         Ok(all) => all,
         Err(fault) => return Err(fault),
     };
     let prefix = prefix_names(alloc, prefix)?;
-    placed(alloc, segments.as_slice(), prefix, all)
+    placed(alloc, cut, prefix, all)
 }
