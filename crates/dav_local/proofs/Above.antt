@@ -57,20 +57,25 @@ folds_apart dir x e =
     let same : length (dir ++ x ∷ []) ≡ length dir = sym (length-map (dir ++ x ∷ []) fold_name) ∙ ap length e ∙ length-map dir fold_name in
     absurd (omega (arith, long, same))
 
+pub no_names : (names : Names) → length names ≡ 0 → names ≡ []
+no_names [] e = refl
+no_names (x ∷ names) e = absurd (omega arith)
+
 pub no_folds : (dir : Names) → fold_path dir ≡ [] → dir ≡ []
 no_folds [] e = refl
 no_folds (d ∷ dir) e = cc
 
 -- ---- entries
 
-kept_folds : (path : Names) → kept_path path ≡ fold_path path
+-- a memory folds as the rules do
+pub same_folds : (path : Names) → kept_path path ≡ fold_path path
 unfolding kept_path kept_name
-kept_folds path = refl
+same_folds path = refl
 
 -- What came first comes next, when another path is put.
 pub next_put : (size : ℕ) (at dir : Names) (now : Moment) (entries : Paths) → 1 < size → fold_path at ≢ fold_path dir → IsFirst dir dir entries → IsNext dir at (inserted size at now entries)
 next_put size at dir now [] room apart first = absurd first
-next_put size at dir now (e ∷ es) room apart first = inr (kept_folds at, by_key (path_tells (kept_path at) e.0))
+next_put size at dir now (e ∷ es) room apart first = inr (same_folds at, by_key (path_tells (kept_path at) e.0))
   where
     first_of : (n : ℕ) → 0 < n → IsFirst dir dir (take n (e ∷ without (same_path (kept_path at)) es))
     first_of zero some = absurd (omega (arith, some))
@@ -78,7 +83,7 @@ next_put size at dir now (e ∷ es) room apart first = inr (kept_folds at, by_ke
 
     by_key : ((same_path (kept_path at) e.0 ≡ true) × (kept_path at ≡ e.0)) ⊎ ((same_path (kept_path at) e.0 ≡ false) × (kept_path at ≢ e.0))
         → IsFirst dir dir (take (size - 1) (without (same_path (kept_path at)) (e ∷ es)))
-    by_key (inl (test, is)) = absurd (apart (sym (kept_folds at) ∙ is ∙ first.0))
+    by_key (inl (test, is)) = absurd (apart (sym (same_folds at) ∙ is ∙ first.0))
     by_key (inr (test, other)) =
         subst (λ b. IsFirst dir dir (take (size - 1) (cond (not b) (e ∷ without (same_path (kept_path at)) es) (without (same_path (kept_path at)) es)))) (sym test)
         (first_of (size - 1) (omega (arith, room)))
@@ -146,7 +151,7 @@ had_there {A = A} call (Some a) (Some b) names s t f both unheld dir = absurd (b
     by_entry (Some e) is (Ok answer, called, there, same) =
         let here : ◌≡◌ {A = Option (Names × A)} (Some f) (Some (e.path, answer)) = there in
         let place : f ≡ (e.path, answer) = cc in
-        unheld e (ap (λ k. lookup (same_path k) a.entries) (sym (kept_folds names)) ∙ is) (sym (ap (λ (g : Names × A). g.0) place))
+        unheld e (ap (λ k. lookup (same_path k) a.entries) (sym (same_folds names)) ∙ is) (sym (ap (λ (g : Names × A). g.0) place))
 
 -- ---- one place and another
 

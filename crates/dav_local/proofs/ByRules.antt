@@ -2,8 +2,7 @@
 use Rattle.std.proofs.Common.{◌≡◌, ◌==◌, ◌&&◌, ◌||◌, ◌≤◌, ◌<◌, ◌⊎◌, inl, inr, ℕ, Bool, true, false, cond, codes, List, [], ◌∷◌, ◌++◌, length, Option, None, Some, Result, Ok, Err, IsOk, refl, sym, ap, subst, ◌∙◌, arith}
 use Rattle.std.specs.Option.{option_map}
 use Rattle.std.specs.Str.{bytes_eq}
-use Rattle.std.proofs.lemmas.Bool.{and_parts}
-use Rattle.std.proofs.lemmas.Bool.Decides.{nat_tests}
+use Rattle.std.proofs.lemmas.Bool.{and_parts, cases_Bool, false_from_ne_true, eqb-true, or_left, or_right, and_right}
 use Rattle.dav_io.specs.declared.failure.NoMemory.{NoMemory as Starved}
 use Rattle.dav_io.proofs.ToldLemmas.{told_after}
 use Rattle.dav_core.specs.declared.error.FsError.{FsError}
@@ -36,7 +35,7 @@ use Rattle.dav_store.specs.Void.{empty_info}
 use Rattle.dav_store.proofs.Reading.{rose_from}
 use Rattle.dav_cache.specs.Builder.{BuilderState}
 use Rattle.dav_cache.specs.Memory as cache
-use Rattle.dav_cache.specs.Memory.{Denied, LearnsNothing, MemoryState, Negates}
+use Rattle.dav_cache.specs.Memory.{Denied, LearnsNothing, MemoryState}
 use Rattle.dav_model.specs.Finding.{Denies, EndsLoosely, has_slash, is_localized, is_named, is_virtual, listed_in, members_or}
 use Rattle.dav_model.specs.Folds.{Name, dir_time, dir_time_of, is_dot}
 use Rattle.dav_model.specs.Rules.{MayDeny, nothing_known}
@@ -53,7 +52,7 @@ use Rattle.dav_local.specs.Standing.{found, seen_in, seen_with}
 use Rattle.dav_local.specs.Ways.{Ways, resolved_by, rules_of}
 use Rattle.dav_local.proofs.Keeping.{asked_keeps, metas_keep}
 use Rattle.dav_local.proofs.Memories.{denied_before}
-use Rattle.dav_local.proofs.Rows.{splits}
+use Rattle.dav_local.proofs.Rows.{not_both, splits}
 use Rattle.dav_local.proofs.Showing.{looks_there, opens_there}
 
 option_bytes : (w : World) (kind : Kind) (o : Option OpenFile) (f : Seen) → option_map (seen_in w kind) o ≡ Some f → f.stands.bytes ≡ bytes_of w f.stands.number
@@ -70,23 +69,13 @@ bytes_seen file s w f told e = bytes_with w (s.live file.handle.0) file.handle.0
 
 -- ---- whether a path is called absent
 
-true_or_false : (b : Bool) → (b ≡ true) ⊎ (b ≡ false)
-true_or_false true = inl refl
-true_or_false false = inr refl
-
-never : {A : Type 0} (b : Bool) → b ≡ true → b ≡ false → A
-never b e f = cc
-
 -- What asks whether a path is absent leaves all of the disk as it was.
 pub tells_keeps : (p q : Place) (at : Names) (r : Result Bool Starved) → TellsAbsent p at r q → Keeps p.disk q.disk
 tells_keeps p q at (Err e) tells = subst (λ (x : Place). Keeps p.disk x.disk) (sym tells.starved) (keeps_same p.disk)
-tells_keeps p q at (Ok b) tells = elim (true_or_false (asks_memory p.ways at)) [
+tells_keeps p q at (Ok b) tells = elim (cases_Bool (asks_memory p.ways at)) [
   | inl asks ↦ asked_keeps p.disk q.disk (tells.dots asks).asks
   | inr none ↦ subst (λ (x : Place). Keeps p.disk x.disk) (sym (tells.plain none).0) (keeps_same p.disk)
 ]
-
-equal_numbers : (n k : ℕ) → (n == k) ≡ true → n ≡ k
-equal_numbers n k t = grind (arith, nat_tests)
 
 no_dot : (x y : Bool) → (x && (false && y)) ≡ false
 no_dot true y = refl
@@ -96,7 +85,7 @@ dot_apart : (name : Name) → is_dot name ≡ true → bytes_eq name (codes ".lo
 dot_apart [] dot = cc
 dot_apart (a ∷ []) dot = cc
 dot_apart (a ∷ b ∷ rest) dot =
-    let second : b ≡ 95 = equal_numbers b 95 (and_parts (a == 46) (b == 95) dot).1 in
+    let second : b ≡ 95 = eqb-true b 95 (and_parts (a == 46) (b == 95) dot).1 in
     rw second (no_dot (a == 46) (bytes_eq rest (codes "ocalized")))
 
 -- a name that begins with `._` isn't `.localized`
@@ -112,21 +101,13 @@ ok_same a b e = cc
 
 -- a path that isn't called absent isn't `.localized`
 pub present : (p q : Place) (at : Names) → TellsAbsent p at (Ok false) q → (p.ways.macos && is_localized at) ≡ false
-present p q at tells = elim (true_or_false (asks_memory p.ways at)) [
-  | inl asks ↦ and_false p.ways.macos (is_localized at) (not_localized at (and_parts p.ways.macos (is_dot (or_empty (last_name at))) asks).1)
+present p q at tells = elim (cases_Bool (asks_memory p.ways at)) [
+  | inl asks ↦ and_right p.ways.macos (is_localized at) (not_localized at (and_parts p.ways.macos (is_dot (or_empty (last_name at))) asks).1)
   | inr none ↦ sym (ok_same false (p.ways.macos && is_localized at) (tells.plain none).1)
 ]
-  where
-    and_false : (a b : Bool) → b ≡ false → (a && b) ≡ false
-    and_false true b e = e
-    and_false false b e = refl
-
-false_by : (b : Bool) → (b ≡ true → ⊥) → b ≡ false
-false_by true h = absurd (h refl)
-false_by false h = refl
 
 clear_above : (tree : List Row) (dir : Names) (name : Name) → is_linked tree (dir ++ name ∷ []) ≡ false → is_linked tree dir ≡ false
-clear_above tree dir name clear = false_by (is_linked tree dir) (λ linked. never (is_linked tree (dir ++ name ∷ [])) (linked_below tree dir (name ∷ []) linked) clear)
+clear_above tree dir name clear = false_from_ne_true (is_linked tree dir) (λ linked. not_both (is_linked tree (dir ++ name ∷ [])) (linked_below tree dir (name ∷ []) linked) clear)
 
 some_time : (a b : FileTime) → ◌≡◌ {A = Option FileTime} (Some a) (Some b) → a ≡ b
 some_time a b e = cc
@@ -162,7 +143,7 @@ denied_by memory s t v at told clear dot (meta, time, metas, dir, modified, may)
 -- A path that is called absent is `.localized`, or the memory may deny it.
 pub absent_why : (p q : Place) (at : Names) (v : World) → p.disk.told ≡ Some v → is_linked v.tree at ≡ false → TellsAbsent p at (Ok true) q
     → ((p.ways.macos && is_localized at) ≡ true) ⊎ ((p.ways.macos ≡ true) × Denies (knowledge_of p.memory) v.tree at)
-absent_why p q at v told clear tells = elim (true_or_false (asks_memory p.ways at)) [
+absent_why p q at v told clear tells = elim (cases_Bool (asks_memory p.ways at)) [
   | inl asks ↦
       let (macos, dot) = and_parts p.ways.macos (is_dot (or_empty (last_name at))) asks in
       inr (macos, denied_by p.memory p.disk q.disk v at told clear dot ((tells.dots asks).denied refl))
@@ -194,11 +175,11 @@ why_before p m at v ways learns (inr (macos, denies)) = inr (ap (λ (x : Ways). 
 
 -- ---- looks
 
-spoiled_by : {T U : Type 0} (s m t : DiskState) (e : FsError) (r : Result U FsError) → s.faults ≤ m.faults → r ≡ Err e → Spoiled {T = T} m (Err e) t → Spoiled s r t
+pub spoiled_by : {T U : Type 0} (s m t : DiskState) (e : FsError) (r : Result U FsError) → s.faults ≤ m.faults → r ≡ Err e → Spoiled {T = T} m (Err e) t → Spoiled s r t
 spoiled_by s m t e r le is (inl (general, rose)) = inl (is ∙ (let f : e ≡ fs.GeneralFailure = cc in ap (λ x. Err x) f), rose_from s.faults m.faults t.faults le rose)
 spoiled_by s m t e r le is (inr none) = inr (is ∙ (let f : e ≡ fs.NoMemory = cc in ap (λ x. Err x) f))
 
-spoiled_later : {T : Type 0} (s m t : DiskState) (r : Result T FsError) → s.faults ≤ m.faults → Spoiled m r t → Spoiled s r t
+pub spoiled_later : {T : Type 0} (s m t : DiskState) (r : Result T FsError) → s.faults ≤ m.faults → Spoiled m r t → Spoiled s r t
 spoiled_later s m t r le (inl (is, rose)) = inl (is, rose_from s.faults m.faults t.faults le rose)
 spoiled_later s m t r le (inr none) = inr none
 
@@ -217,13 +198,6 @@ looked_found : (ways : Ways) (w : World) (end : Names) (path : WebPath) → is_v
 looked_found ways w end path plain here =
     ap (λ b. cond b (Ok empty_standing) (cond ((ways.macos && is_localized end) || false) (Err fs.NotFound) (found w (has_slash ways.alone path) (look w.tree end)))) plain
     ∙ ap (λ b. cond (b || false) (Err fs.NotFound) (found w (has_slash ways.alone path) (look w.tree end))) here
-
-or_true : (b : Bool) → (b || true) ≡ true
-or_true true = refl
-or_true false = refl
-
-or_left : (a b : Bool) → a ≡ true → (a || b) ≡ true
-or_left a b e = ap (λ x. x || b) e
 
 abbrev Looked : Place → World → WebPath → Result Info FsError → Place → Type 0
 Looked p w path result q = LooksByRules p.ways (knowledge_of p.memory) w path p.disk result q.disk
@@ -262,11 +236,11 @@ looked_missing p m n q w v path at result plain leads ways learns told tree tell
       loosely = leads.loosely;
       denies = true;
       denied = λ e. (macos, subst (λ z. Denies (knowledge_of p.memory) w.tree z) here (subst (λ z. Denies (knowledge_of p.memory) z at) tree denies));
-      shows = λ c. inl (missing true (or_true (p.ways.macos && is_localized leads.end)));
+      shows = λ c. inl (missing true (or_right (p.ways.macos && is_localized leads.end) true refl));
     }
 
     by_link : (b : Bool) → is_linked w.tree leads.end ≡ b → Looked p w path result q
-    by_link true linked = record { end = leads.end; loosely = leads.loosely; denies = false; denied = λ e. cc; shows = λ clear. never (is_linked w.tree leads.end) linked clear }
+    by_link true linked = record { end = leads.end; loosely = leads.loosely; denies = false; denied = λ e. cc; shows = λ clear. not_both (is_linked w.tree leads.end) linked clear }
     by_link false clear =
         let here = leads.here clear in
         by_why clear here (why_before p m at v ways learns (absent_why m n at v told (ap (λ z. is_linked z at) tree ∙ ap (is_linked w.tree) here ∙ clear) tells))

@@ -10,6 +10,7 @@ use Rattle.dav_core.specs.Path.{Names, all_plain, is_front, is_plain}
 use Rattle.dav_core.specs.Tree.{is_dir, is_dir_row, is_link, is_linked, is_tree, look, row_at, standing}
 use Rattle.dav_core.specs.World.{World}
 use Rattle.dav_core.proofs.Plain.{names_same}
+use Rattle.dav_core.proofs.Rows.{IsTree, dir_row, tree_parts}
 use Rattle.dav_model.specs.Finding.{IsLoose, IsOf, is_alike}
 use Rattle.dav_model.specs.Folds.{Name, fold_name, fold_path}
 use Rattle.dav_model.proofs.PlainWalks.{linked_below}
@@ -18,13 +19,9 @@ use Rattle.dav_local.specs.Remembering.{HasFirst, IsFoundIn, StandsElsewhere}
 use Rattle.dav_local.specs.Walking.{BringsAbove, Comes, EndsAt, IsAlikeIn, IsClearAt, KeepsPlace, Remembers, RemembersIn, StandsAt, StepsOn, StepsTo, Walks}
 use Rattle.dav_local.proofs.Above.{dir_below, dir_same, first_next, folds_apart, next_alike, no_root}
 use Rattle.dav_local.proofs.Memories.{alike_folds, error_of, first_alike, place_same, place_then, rows_same, rows_then, same_tree, spoiled_after, stands_still}
-use Rattle.dav_local.proofs.Rows.{IsTree, alike_splits, behind_link, clear_above, found_of, link_at, none_of, nothing_below, stands_below, tree_parts, unlinked_above}
+use Rattle.dav_local.proofs.Rows.{alike_splits, behind_link, clear_above, found_of, link_at, none_of, not_both, nothing_below, stands_below, unlinked_above}
 
 -- ---- the root
-
-some_dir : (o : Option Row) → is_dir_row o ≡ true → (d : Row) × (o ≡ Some d)
-some_dir None e = cc
-some_dir (Some d) e = (d, refl)
 
 no_front : (p : Names) (n : ℕ) → p ≡ take n [] → p ≡ []
 no_front p zero e = e
@@ -40,7 +37,7 @@ link_apart d l dir link e = let same : l ≡ d = cc in no_both d.kind dir (ap (�
 
 pub root_clear : (tree : List Row) → IsTree tree → IsClearAt tree []
 root_clear tree is =
-    let (d, there) = some_dir (row_at tree []) is.root in
+    let (d, there, dir) = dir_row (row_at tree []) is.root in
     record {
       row = d;
       stands = ap standing there;
@@ -78,16 +75,13 @@ comes_on tree names at name more next is steps (inl (here, on)) =
           λ end loose. on end (inl (row, o, alike, subst (λ z. IsLoose true tree z more end) (sym path) loose)),
         )
 
-never : {A : Type 0} (b : Bool) → b ≡ true → b ≡ false → A
-never b e f = cc
-
 pub comes_none : (tree : List Row) (names at : Names) (name : Name) (more : Names) → (IsClearAt tree at → StepsTo tree at name None) → Comes tree names at (name ∷ more)
     → EndsAt tree names (at ++ name ∷ more)
-comes_none tree names at name more steps (inr (end, loose, link)) = (end, loose, λ clear. never (is_linked tree end) link clear)
+comes_none tree names at name more steps (inr (end, loose, link)) = (end, loose, λ clear. not_both (is_linked tree end) link clear)
 comes_none tree names at name more steps (inl (here, on)) = (at ++ name ∷ more, on (at ++ name ∷ more) (inr (steps here, refl)), λ clear. refl)
 
 pub comes_out : (tree : List Row) (names at : Names) → Comes tree names at [] → EndsAt tree names at
-comes_out tree names at (inr (end, loose, link)) = (end, loose, λ clear. never (is_linked tree end) link clear)
+comes_out tree names at (inr (end, loose, link)) = (end, loose, λ clear. not_both (is_linked tree end) link clear)
 comes_out tree names at (inl (here, on)) = (at, on at refl, λ clear. refl)
 
 -- ---- the walk

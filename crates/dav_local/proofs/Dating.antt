@@ -1,9 +1,8 @@
 -- Which entries of a memory are new after its calls.
 use Rattle.std.proofs.Common.{ℕ, zero, suc, ◌-◌, ◌+◌, cond, not, take, ◌≡◌, nat_lt, if◌then◌else◌, Bool, true, false, List, [], ◌∷◌, Option, None, Some, Result, Ok, Err, length, refl, sym, ap, subst, ◌∙◌}
 use Rattle.std.specs.Map.{lookup}
-use Rattle.dav_io.specs.Told.{Both}
 use Rattle.dav_io.specs.declared.clock.Moment.{Moment}
-use Rattle.dav_io.proofs.ToldLemmas.{both_same, both_then}
+use Rattle.dav_io.proofs.ToldLemmas.{both_known, both_same, both_then}
 use Rattle.dav_core.specs.declared.handle.DiskError.{DiskError}
 use Rattle.dav_core.specs.declared.time.FileTime.{FileTime}
 use Rattle.dav_core.specs.Disk.{DiskState}
@@ -76,19 +75,13 @@ made_then now old mid new first next = record {
       (λ a b. NewAre (IsDotOf now) a.entries b.entries) (λ a b c p q. new_then (IsDotOf now) a.entries b.entries c.entries p q) first.dots next.dots;
 }
 
-both_to : {A : Type 0} (a b : Option A) (P Q : A → A → Type 0) → ((x y : A) → a ≡ Some x → P x y → Q x y) → Both a b P → Both a b Q
-both_to None None P Q to both = tt
-both_to None (Some y) P Q to both = absurd both
-both_to (Some x) None P Q to both = absurd both
-both_to (Some x) (Some y) P Q to both = to x y refl both
-
 -- ---- the cache of paths
 
 -- A path that is looked up makes no entry.
 pub made_got : {A : Type 0} (call : DiskState → Names → Result A DiskError → DiskState → Type 0) (now : Moment) (old new : MemoryState) (names : Names) (s t : DiskState) (found : Option (Names × A))
     → GetsBy call old names s found new t → MadeAt now old new
 made_got call now old new names s t found gets = record {
-  paths = both_to old.paths new.paths (λ a b. LooksBy call (lookup (same_path (kept_path names)) a.entries) a names s found b t) (λ a b. NewAre (IsPathOf now) a.entries b.entries)
+  paths = both_known old.paths new.paths (λ a b. LooksBy call (lookup (same_path (kept_path names)) a.entries) a names s found b t) (λ a b. NewAre (IsPathOf now) a.entries b.entries)
       (λ a b told looks. by_entry (lookup (same_path (kept_path names)) a.entries) a b refl looks) gets.paths;
   dots = both_same old.dots new.dots (λ a b. NewAre (IsDotOf now) a.entries b.entries) (λ x test fresh all. all) gets.dots;
 }
@@ -104,7 +97,7 @@ made_got call now old new names s t found gets = record {
 -- A path that is put is an entry of its moment.
 pub made_inserted : (now : Moment) (old new : MemoryState) (path : Names) → Inserts old path now new → MadeAt now old new
 made_inserted now old new path inserts = record {
-  paths = both_to old.paths new.paths (λ a b. b ≡ record a { entries = inserted a.size path now a.entries }) (λ a b. NewAre (IsPathOf now) a.entries b.entries)
+  paths = both_known old.paths new.paths (λ a b. b ≡ record a { entries = inserted a.size path now a.entries }) (λ a b. NewAre (IsPathOf now) a.entries b.entries)
       (λ a b told same test fresh all. subst (λ (c : PathCache). AllOf test c.entries) (sym same)
       (fresh _ refl, of_take test (a.size - 1) (without (same_path (kept_path path)) a.entries) (of_without test (same_path (kept_path path)) a.entries all)))
       inserts.paths;
@@ -151,7 +144,7 @@ dots_sealed now a b dir time names Starved (less, room, most, same) = λ test fr
 pub made_sealed : (now : Moment) (old new : MemoryState) (dir : DuKey) (time : FileTime) (names : List Name) (result : Sealed) → SealsIn old dir time names now result new → MadeAt now old new
 made_sealed now old new dir time names result seals = record {
   paths = both_same old.paths new.paths (λ a b. NewAre (IsPathOf now) a.entries b.entries) (λ x test fresh all. all) seals.paths;
-  dots = both_to old.dots new.dots (λ a b. Seals a dir time now names result b) (λ a b. NewAre (IsDotOf now) a.entries b.entries)
+  dots = both_known old.dots new.dots (λ a b. Seals a dir time now names result b) (λ a b. NewAre (IsDotOf now) a.entries b.entries)
       (λ a b told is. dots_sealed now a b dir time names result is) seals.dots;
 }
 
@@ -159,7 +152,7 @@ made_sealed now old new dir time names result seals = record {
 pub made_negated : (now : Moment) (old new : MemoryState) (dir : Names) (name : Name) (s t : DiskState) (absent : Bool) → Negates old dir name s absent new t → MadeAt now old new
 made_negated now old new dir name s t absent negates = record {
   paths = both_same old.paths new.paths (λ a b. NewAre (IsPathOf now) a.entries b.entries) (λ x test fresh all. all) negates.paths;
-  dots = both_to old.dots new.dots (λ a b. Denies (lookup (same_key (dir_key dir)) a.entries) a dir name s absent b t) (λ a b. NewAre (IsDotOf now) a.entries b.entries)
+  dots = both_known old.dots new.dots (λ a b. Denies (lookup (same_key (dir_key dir)) a.entries) a dir name s absent b t) (λ a b. NewAre (IsDotOf now) a.entries b.entries)
       (λ a b told is. by_entry (lookup (same_key (dir_key dir)) a.entries) a b is) negates.dots;
 }
   where
@@ -176,8 +169,8 @@ made_negated now old new dir name s t absent negates = record {
 -- A purge makes no entry.
 pub made_purged : (now at : Moment) (old new : MemoryState) → Purges old at new → MadeAt now old new
 made_purged now at old new purges = record {
-  paths = both_to old.paths new.paths (λ a b. b ≡ record a { entries = purged (is_old_path at) a.entries }) (λ a b. NewAre (IsPathOf now) a.entries b.entries)
+  paths = both_known old.paths new.paths (λ a b. b ≡ record a { entries = purged (is_old_path at) a.entries }) (λ a b. NewAre (IsPathOf now) a.entries b.entries)
       (λ a b told same test fresh all. subst (λ (c : PathCache). AllOf test c.entries) (sym same) (of_purged test (is_old_path at) a.entries all)) purges.paths;
-  dots = both_to old.dots new.dots (λ a b. b ≡ record a { entries = purged (is_old_dot at) a.entries }) (λ a b. NewAre (IsDotOf now) a.entries b.entries)
+  dots = both_known old.dots new.dots (λ a b. b ≡ record a { entries = purged (is_old_dot at) a.entries }) (λ a b. NewAre (IsDotOf now) a.entries b.entries)
       (λ a b told same test fresh all. subst (λ (c : DotCache). AllOf test c.entries) (sym same) (of_purged test (is_old_dot at) a.entries all)) purges.dots;
 }

@@ -1,9 +1,9 @@
 -- What is told of the entries of a listing: they are of the rows that stand in its directory, each once.
-use Rattle.std.proofs.Common.{◌≡◌, ◌==◌, ◌-◌, drop, ◌||◌, ◌≤◌, ◌<◌, ◌⊎◌, inl, inr, ℕ, Bool, true, false, cond, List, [], ◌∷◌, ◌++◌, length, map, get_or, set, Some, Result, Ok, Err, IsOk, refl, sym, ap, ◌∙◌, subst, arith}
+use Rattle.std.proofs.Common.{◌≡◌, ◌-◌, drop, ◌≤◌, ◌<◌, ◌⊎◌, inl, inr, ℕ, Bool, true, false, cond, List, [], ◌∷◌, ◌++◌, length, map, get_or, set, Some, Result, Ok, Err, IsOk, refl, sym, ap, ◌∙◌, subst, arith}
 use Rattle.std.proofs.lemmas.List.{length-map, map-set, take-append-drop}
-use Rattle.std.proofs.lemmas.Bool.Decides.{nat_tests}
 use Rattle.std.proofs.Math.ListN.{get_or-map}
 use Rattle.std.proofs.lemmas.List.Sorted.{IsPermutation-keeps, IsPermutation-refl, IsPermutation-swap, IsPermutation-trans}
+use Rattle.std.proofs.lemmas.Bool.{false_from_ne_true}
 use Rattle.std.specs.List.{AllByRecursion, AllZip, filter, swap}
 use Rattle.std.specs.List.Sorted.{IsPermutation}
 use Rattle.dav_io.specs.Counts.{Rose}
@@ -23,15 +23,16 @@ use Rattle.dav_core.specs.Members.{member_of}
 use Rattle.dav_core.specs.Path.{Names, parent_of}
 use Rattle.dav_core.specs.Tree.{below_kind, is_linked, is_tree, look}
 use Rattle.dav_core.specs.Unchanged.{SameBesidesOpens}
-use Rattle.dav_core.specs.World.{World, bytes_or_none, is_numbered}
-use Rattle.dav_core.proofs.LookLemmas.{look_all}
+use Rattle.dav_core.specs.World.{World, bytes_or_none}
+use Rattle.dav_core.proofs.Rows.{IsTree, path_in, tree_parts}
 use Rattle.dav_store.specs.Members.{Answered, IsAnswerOf, SaysOrRose}
 use Rattle.dav_store.proofs.Reading.{rose_from, rose_on}
 use Rattle.dav_model.specs.Finding.{IsOf}
 use Rattle.dav_model.proofs.PlainWalks.{linked_below}
 use Rattle.dav_local.specs.Entries.{said_info}
 use Rattle.dav_local.specs.Files.{said_by}
-use Rattle.dav_local.proofs.Rows.{IsTree, path_in, stands_below, tree_parts}
+use Rattle.dav_local.proofs.Rows.{stands_below}
+use Rattle.dav_local.proofs.Showing.{found_numbered}
 
 -- ---- what stands in a directory
 
@@ -155,25 +156,6 @@ said_err Exists w x path from s t may r tree asks le = absurd may
 said_err NotEmpty w x path from s t may r tree asks le = absurd may
 said_err NoMemory w x path from s t may r tree asks le = absurd may
 
-numbered_here : (n : ℕ) (later : Bool) → ((n == n) || later) ≡ true
-numbered_here n later = grind (arith, nat_tests)
-
-numbered_later : (b later : Bool) → later ≡ true → (b || later) ≡ true
-numbered_later true later e = refl
-numbered_later false later e = e
-
-each_numbered : (tree rows : List Row) → ((n : ℕ) → is_numbered rows n ≡ true → is_numbered tree n ≡ true)
-    → AllByRecursion (λ (r : Row). is_numbered tree r.number ≡ true) rows
-each_numbered tree [] up = tt
-each_numbered tree (r ∷ rows) up = (
-  up r.number (numbered_here r.number (is_numbered rows r.number)),
-  each_numbered tree rows (λ n e. up n (numbered_later (n == r.number) (is_numbered rows n) e)),
-)
-
--- The number of a row that is found stands in the tree.
-found_numbered : (tree : List Row) (path : Names) (row : Row) → look tree path ≡ Ok row → is_numbered tree row.number ≡ true
-found_numbered tree path row e = look_all (λ r. is_numbered tree r.number ≡ true) tree path row (each_numbered tree tree (λ n e. e)) e
-
 meta_back : (w x : World) (path : Names) (row : Row) (meta : Meta) → SameBesidesOpens w x → look x.tree path ≡ Ok row → IsMetaOf x row meta
     → IsMetaOf w row meta
 meta_back w x path row meta same looked is = record {
@@ -183,16 +165,12 @@ meta_back w x path row meta same looked is = record {
   modified = is.modified;
 }
 
-no_link : (b : Bool) → (b ≡ true → ⊥) → b ≡ false
-no_link true h = absurd (h refl)
-no_link false h = refl
-
 -- where no link stands on a path, none stands on the way to it
 pub clear_way : (follows : Bool) (tree : List Row) (path : Names) → is_linked tree path ≡ false → is_linked tree (way_to follows path) ≡ false
 clear_way true tree path clear = clear
 clear_way false tree path clear =
     let n = length path - 1 in
-    no_link (is_linked tree (parent_of path)) (λ link.
+    false_from_ne_true (is_linked tree (parent_of path)) (λ link.
     let further : is_linked tree path ≡ true = ap (is_linked tree) (sym (take-append-drop n path)) ∙ linked_below tree (parent_of path) (drop n path) link in
     let never : true ≡ false = sym further ∙ clear in cc)
 

@@ -39,7 +39,7 @@ reads_kept_at s m t v d x e name entry same stays on gives keeps either =
 
 -- ---- how many answers are to come
 
-none_refused : (d : ListingState) → is_ended d ≡ false → (d.over ≡ false) × (d.refused ≡ None)
+pub none_refused : (d : ListingState) → is_ended d ≡ false → (d.over ≡ false) × (d.refused ≡ None)
 none_refused d e = by_over d.over d.refused e
   where
     by_over : (over : Bool) (refused : Option FsError) → (over || is_some refused) ≡ false → (over ≡ false) × (refused ≡ None)

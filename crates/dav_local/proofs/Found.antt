@@ -11,6 +11,7 @@ use Rattle.dav_core.specs.Path.{Names}
 use Rattle.dav_core.specs.Tree.{is_linked, is_tree, look}
 use Rattle.dav_core.specs.Unchanged.{Keeps}
 use Rattle.dav_core.specs.World.{IsWorld, World}
+use Rattle.dav_core.proofs.Rows.{IsTree, tree_parts}
 use Rattle.dav_cache.specs.Entries.{PathCache}
 use Rattle.dav_model.specs.Finding.{IsLoose, is_alike}
 use Rattle.dav_model.specs.Folds.{Name, fold_name, fold_path}
@@ -19,13 +20,10 @@ use Rattle.std.proofs.lemmas.List.{map-append}
 use Rattle.dav_local.specs.Places.{Place}
 use Rattle.dav_local.specs.Remembering.{HasFirst, HasNext, IsFirst, KeepsAbove, KeepsWork, SavesCalls, StandsElsewhere}
 use Rattle.dav_local.specs.Walking.{BringsAbove, BringsUnheld, EndsAt, FindsParent, IsAlikeIn, IsClearAt, KeepsPlace, Recalls, Remembers, RemembersIn, StandsAt, Steps, StepsTo, TakesIn, TakesMember, Walks}
-use Rattle.dav_local.proofs.Above.{dir_same, first_itself, first_next, folds_apart, found_in_on, next_alike, no_folds, no_root}
+use Rattle.dav_local.proofs.Above.{dir_same, first_itself, first_next, folds_apart, found_in_on, next_alike, no_folds, no_names, no_root}
 use Rattle.dav_local.proofs.Coming.{root_clear}
 use Rattle.dav_local.proofs.Memories.{alike_folds, error_of, first_alike, place_disk, place_same, place_then, rows_same, rows_then, same_tree, spoiled_after, stands_still}
-use Rattle.dav_local.proofs.Rows.{IsTree, clear_above, linked_alike, nothing_below, stands_below, stood_loosely, stood_then, tree_parts, unlinked_above}
-
-never : {A : Type 0} (b : Bool) → b ≡ true → b ≡ false → A
-never b e f = cc
+use Rattle.dav_local.proofs.Rows.{clear_above, linked_alike, not_both, nothing_below, stands_below, stood_loosely, stood_then, unlinked_above}
 
 -- ---- where a walk ends
 
@@ -34,7 +32,7 @@ pub alike_ends : (tree : List Row) (names at : Names) → IsTree tree → fold_p
 alike_ends tree names at is folds stands = by_link (is_linked tree at) refl
   where
     by_link : (b : Bool) → is_linked tree at ≡ b → EndsAt tree names at
-    by_link true e = let (end, loose, link) = linked_alike tree [] at names is (root_clear tree is) e folds in (end, loose, λ clear. never (is_linked tree end) link clear)
+    by_link true e = let (end, loose, link) = linked_alike tree [] at names is (root_clear tree is) e folds in (end, loose, λ clear. not_both (is_linked tree end) link clear)
     by_link false e = let (row, stood) = stands e in (at, stood_loosely tree [] at names row stood folds, λ clear. refl)
 
 taken_ends : (tree : List Row) (names above dir : Names) (name : Name) (at : Names) → IsTree tree → names ≡ above ++ name ∷ [] → fold_path dir ≡ fold_path above
@@ -45,7 +43,7 @@ taken_ends tree names above dir name at is path folds all (x, below, alike) stoo
     by_link : (b : Bool) → is_linked tree dir ≡ b → EndsAt tree names at
     by_link true e =
         let linked : is_linked tree at ≡ true = ap (is_linked tree) below ∙ linked_below tree dir (x ∷ []) e in
-        alike_ends tree names at is all (λ clear. never (is_linked tree at) linked clear)
+        alike_ends tree names at is all (λ clear. not_both (is_linked tree at) linked clear)
     by_link false e =
         let (d, stands) = stood e in
         elim (told (record { row = d; stands = stands; clear = e })) [
@@ -152,10 +150,6 @@ walk_whole p t names m metas keeps = record {
 
 pub walks_missing : (p q : Place) (t : DiskState) (names : Names) (r : Result Names FsError) → Keeps p.disk t → Walks (record p { disk = t }) names r q → Walks p names r q
 walks_missing p q t names r keeps walks = walks_after p (record p { disk = t }) q names r (place_disk p t keeps) (rows_same p (record p { disk = t }) refl) walks
-
-no_names : (names : Names) → length names ≡ 0 → names ≡ []
-no_names [] e = refl
-no_names (x ∷ names) e = absurd (omega arith)
 
 -- ---- the directory above
 

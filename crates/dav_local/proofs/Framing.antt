@@ -6,28 +6,12 @@ use Rattle.dav_core.specs.declared.handle.OpenOptions.{OpenOptions}
 use Rattle.dav_core.specs.Disk.{DiskState}
 use Rattle.dav_core.specs.Unchanged.{Keeps, SameListing, SameOpen}
 use Rattle.dav_core.proofs.UnchangedLemmas.{but_then, keeps_but, keeps_then, same_listing_then, same_open_then}
-use Rattle.dav_store.specs.Frames.{KeepsOpen, KeepsOpenBut, OpensOne}
+use Rattle.dav_store.specs.Frames.{KeepsOpenBut, OpensOne}
 use Rattle.dav_store.specs.Listings.{HasNone, ListsOne}
 use Rattle.dav_store.specs.FileView.{FileView}
 use Rattle.dav_store.proofs.Reading.{keeps_lister}
 use Rattle.dav_store.proofs.Walking.{walk_then}
-
-pub keeps_open : (s t : DiskState) → Keeps s t → KeepsOpen s t
-keeps_open s t keeps = record { counts = keeps.counts; asked = keeps.asked; whole = keeps.whole; listers = keeps.listers; listings = keeps.listings; live = keeps.live; opens = keeps.opens }
-
-pub open_then : (s m t : DiskState) → KeepsOpen s m → KeepsOpen m t → KeepsOpen s t
-open_then s m t p q = record {
-  counts = omega (arith, p.counts, q.counts);
-  asked = omega (arith, p.asked, q.asked);
-  whole = λ w. q.whole (p.whole w);
-  listers = q.listers ∙ p.listers;
-  listings = λ n k e. both_then _ _ _ (SameListing n) (SameListing n) (SameListing n) (same_listing_then n) (p.listings n k e) (q.listings n k (ap (λ (f : ℕ → Option ℕ). f n) p.listers ∙ e));
-  live = λ h. q.live h ∙ p.live h;
-  opens = λ h l e. both_then _ _ _ (SameOpen h) (SameOpen h) (SameOpen h) (same_open_then h) (p.opens h l e) (q.opens h l (p.live h ∙ e));
-}
-
-pub open_after : (s m t : DiskState) → Keeps s m → KeepsOpen m t → KeepsOpen s t
-open_after s m t keeps acts = open_then s m t (keeps_open s m keeps) acts
+use Rattle.dav_store.proofs.Staying.{open_after}
 
 but_after : (own : ℕ) (s m t : DiskState) → Keeps s m → KeepsOpenBut own m t → KeepsOpenBut own s t
 but_after own s m t p q = record {

@@ -15,6 +15,7 @@ use Rattle.dav_core.specs.Tree.{is_link, is_linked}
 use Rattle.dav_core.specs.Unchanged.{Keeps, SameBesidesOpens}
 use Rattle.dav_core.specs.World.{World}
 use Rattle.dav_core.proofs.Paths.{front_join, front_rest, parent_pushed}
+use Rattle.dav_core.proofs.Rows.{path_in}
 use Rattle.dav_model.specs.Calls.{calls_from_root, is_link_on_way, is_on_way}
 use Rattle.dav_model.specs.Folds.{Name, fold_name, fold_path}
 use Rattle.dav_local.specs.FromRoot.{CostsAtMost, CostsBy, StepsFew}
@@ -22,12 +23,9 @@ use Rattle.dav_local.specs.Near.{CallsAtMost, SearchesFew, members_at}
 use Rattle.dav_local.specs.Places.{Place}
 use Rattle.dav_local.specs.Walking.{IsAlikeIn}
 use Rattle.dav_local.proofs.Counted.{few_called, few_more, few_then, unasked}
-use Rattle.dav_local.proofs.Rows.{any_of, none_of, path_in}
+use Rattle.dav_local.proofs.Rows.{any_of, none_of, not_both}
 
 -- ---- rows that are counted
-
-never : {A : Type 0} (b : Bool) → b ≡ true → b ≡ false → A
-never b e f = cc
 
 -- Nothing passes both of the first tests, and what passes either passes the third.
 parts_count : {X : Type 0} (p q r : X → Bool) → ((x : X) → p x ≡ true → (q x ≡ false) × (r x ≡ true)) → ((x : X) → q x ≡ true → r x ≡ true) → (xs : List X) → count_by p xs + count_by q xs ≤ count_by r xs
@@ -89,7 +87,7 @@ way_clear tree names at rest clear same = none_of (λ row. is_link row.kind && i
     let (link, front) = and_parts (is_link row.kind) (is_front row.path at) both in
     let begins : is_front (fold_path row.path) (fold_path names) ≡ true = folds_before row.path (drop (length row.path) at ++ rest) names
     (ap fold_path (sym (append_assoc row.path (drop (length row.path) at) rest) ∙ ap (λ z. z ++ rest) (sym (front_rest row.path at front))) ∙ same) in
-    never (is_link_on_way tree names) (any_of (λ r. is_link r.kind && is_front (fold_path r.path) (fold_path names)) tree row o (and_from _ _ link begins)) clear)
+    not_both (is_link_on_way tree names) (any_of (λ r. is_link r.kind && is_front (fold_path r.path) (fold_path names)) tree row o (and_from _ _ link begins)) clear)
 
 -- ---- the walk
 

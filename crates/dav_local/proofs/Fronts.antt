@@ -28,7 +28,7 @@ use Rattle.dav_local.specs.Entries.{said_info}
 use Rattle.dav_local.specs.Listing.{Fills, Gives, IsKnown, ListingState, ReadsOne, Refills, WasRead, is_ended, with_given}
 use Rattle.dav_local.specs.Listing.Fills.{full, ended, more}
 use Rattle.dav_local.specs.Shown.{WhyRefused}
-use Rattle.dav_local.proofs.Filling.{given_keeps}
+use Rattle.dav_local.proofs.Filling.{given_keeps, none_refused}
 use Rattle.dav_local.proofs.EntriesTold.{SaidOf, said_later, said_of}
 
 -- ---- a listing as it was begun
@@ -87,14 +87,6 @@ pub record Front (b : Begun) (given : Names) (t : DiskState) (k : ListingState) 
   pub each : AllByRecursion (EntryTold b t.faults) k.batch
   pub why : IfSome k.refused (WhyRefused b.from t.faults)
   pub counts : b.from ≤ t.faults
-
-going_on : (k : ListingState) → is_ended k ≡ false → (k.over ≡ false) × (k.refused ≡ None)
-going_on k e = by_over k.over k.refused e
-  where
-    by_over : (over : Bool) (refused : Option FsError) → (over || is_some refused) ≡ false → (over ≡ false) × (refused ≡ None)
-    by_over false None e = (refl, refl)
-    by_over false (Some f) e = cc
-    by_over true refused e = cc
 
 -- the world after a name was given
 world_on : (l : ℕ) (w v x : World) (rest : Names) → SameBesidesOpens w v → x ≡ with_listings v (put l (Some rest) v.listings) → SameBesidesOpens w x
@@ -163,7 +155,7 @@ read_told b (At place) m t x path same told le known = absurd known
 front_entry : (b : Begun) (given : Names) (s m t : DiskState) (k e : ListingState) (name : List ℕ) (entry : LocalFsDirEntry) (f : Front b given s k) → is_ended k ≡ false → ListsOn s k.lister.0 (Ok (Some name)) m
     → entry.name ≡ name → IsKnown entry.meta k.wanted m (k.path ++ name ∷ []) t → Keeps m t → e ≡ with_given k (Ok entry) → Front b given t e
 front_entry b given s m t k e name entry f still on named kept_meta keeps is =
-    let (over, refused) = going_on k still in
+    let (over, refused) = none_refused k still in
     let a = after_name b given s m k name f on in
     let l = kept_after b m t name f.rest a keeps in
     let none = f.whole refused in
@@ -195,7 +187,7 @@ front_entry b given s m t k e name entry f still on named kept_meta keeps is =
 front_lost : (b : Begun) (given : Names) (s m t : DiskState) (k e : ListingState) (name : List ℕ) (error : FsError) (f : Front b given s k) → is_ended k ≡ false → ListsOn s k.lister.0 (Ok (Some name)) m
     → error ≡ fs.NoMemory → Keeps m t → e ≡ with_given k (Err error) → Front b given t e
 front_lost b given s m t k e name error f still on none_left keeps is =
-    let (over, refused) = going_on k still in
+    let (over, refused) = none_refused k still in
     let a = after_name b given s m k name f on in
     let l = kept_after b m t name f.rest a keeps in
     let none = f.whole refused in
@@ -222,7 +214,7 @@ front_lost b given s m t k e name error f still on none_left keeps is =
 front_none : (b : Begun) (given : Names) (s t : DiskState) (k e : ListingState) (refused : Option FsError) (over : Bool) (f : Front b given s k) → is_ended k ≡ false → t.told ≡ Some f.now → s.faults ≤ t.faults
     → (over ≡ true → refused ≡ None → f.rest ≡ []) → IfSome refused (WhyRefused b.from t.faults) → e ≡ record k { refused = refused; over = over } → Front b given t e
 front_none b given s t k e refused over f still told up ends why is =
-    let none = f.whole (going_on k still).1 in
+    let none = f.whole (none_refused k still).1 in
     subst (Front b given t) (sym is) (record {
       lister = f.lister;
       path = f.path;
@@ -251,14 +243,14 @@ front_reads : (b : Begun) (given : Names) (s t : DiskState) (k e : ListingState)
 front_reads b given s t k e still f (Ok (Some name), m, on, (Ok entry, gives, is)) = front_entry b given s m t k e name entry f still on gives.0 gives.1 (given_keeps name k.path k.wanted m (Ok entry) t gives) is
 front_reads b given s t k e still f (Ok (Some name), m, on, (Err error, gives, is)) = front_lost b given s m t k e name error f still on gives.0 gives.1 is
 front_reads b given s t k e still f (Ok None, m, on, (same, is)) =
-    let (over, refused) = going_on k still in
+    let (over, refused) = none_refused k still in
     let told = ap (λ (x : DiskState). x.told) same ∙ same_still b given s m k (Ok None) f on (λ l v w n. n.1) in
     let (x, at, next) = told_after s.told m.told (NextIn k.lister.0 (Ok None)) f.now on.told f.told in
     let ends : f.rest ≡ [] = (let h : Some f.rest ≡ Some [] = sym f.listing ∙ (ap f.now.listings (sym f.lister) ∙ next.0) in cc) in
     let up : s.faults ≤ t.faults = subst (λ (x : DiskState). s.faults ≤ x.faults) (sym same) on.counted.counts in
     front_none b given s t k e None true f still told up (λ o r. ends) tt (is ∙ ap (λ r. record k { refused = r; over = true }) refused)
 front_reads b given s t k e still f (Err NoMemory, m, on, (same, is)) =
-    let (over, refused) = going_on k still in
+    let (over, refused) = none_refused k still in
     let told = ap (λ (x : DiskState). x.told) same ∙ same_still b given s m k (Err NoMemory) f on (λ l v w n. n) in
     let up : s.faults ≤ t.faults = subst (λ (x : DiskState). s.faults ≤ x.faults) (sym same) on.counted.counts in
     front_none b given s t k e (Some fs.NoMemory) false f still told up (λ o r. cc) (inl refl) (is ∙ ap (λ o. record k { refused = Some fs.NoMemory; over = o }) over)
@@ -316,7 +308,7 @@ given_by b given t k e entry batch first f is =
       told = all.0;
     }
 
-same_entry : (a b : LocalFsDirEntry) → ◌≡◌ {A = Result (Option LocalFsDirEntry) FsError} (Ok (Some a)) (Ok (Some b)) → a ≡ b
+pub same_entry : (a b : LocalFsDirEntry) → ◌≡◌ {A = Result (Option LocalFsDirEntry) FsError} (Ok (Some a)) (Ok (Some b)) → a ≡ b
 same_entry a b e = cc
 
 pub given_from : (b : Begun) (given : Names) (t : DiskState) (k e : ListingState) (entry : LocalFsDirEntry) (batch : List LocalFsDirEntry) (refused : Option FsError) → k.batch ≡ batch

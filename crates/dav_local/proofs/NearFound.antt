@@ -4,6 +4,7 @@ use Rattle.std.specs.Map.{lookup}
 use Rattle.std.specs.Option.{is_some}
 use Rattle.dav_io.specs.Counts.{RefusedNothing}
 use Rattle.dav_io.proofs.ToldLemmas.{told_after}
+use Rattle.dav_io.proofs.Rising.{no_rise}
 use Rattle.dav_core.specs.declared.error.FsError.{FsError}
 use Rattle.dav_core.specs.declared.handle.DiskError.{DiskError}
 use Rattle.dav_core.specs.declared.handle.Meta.{Meta}
@@ -22,10 +23,10 @@ use Rattle.dav_model.specs.Folds.{Name}
 use Rattle.dav_local.specs.Near.{CallsAtMost, FindsAtOnce, FindsDir, FindsDirHere, FindsHere, IsAtOnce, IsFoundAt, IsIn, IsUnkept, MissesUnasked, SearchesFew, SoughtIn, StandsClear, members_at}
 use Rattle.dav_local.specs.Places.{Place}
 use Rattle.dav_local.specs.Walking.{IsAlikeIn, KeepsPlace, Recalls, Remembers, TakesMember}
-use Rattle.dav_local.proofs.Above.{dir_same}
+use Rattle.dav_local.proofs.Above.{dir_same, no_names, same_folds}
 use Rattle.dav_local.proofs.Counted.{few_called, few_more, one_then, unasked}
 use Rattle.dav_local.proofs.Memories.{error_of, same_tree}
-use Rattle.dav_local.proofs.Recalling.{no_refusal, no_rise, same_folds}
+use Rattle.dav_local.proofs.Recalling.{no_refusal}
 
 -- ---- nothing is refused so far
 
@@ -117,10 +118,6 @@ in_as p q names dir at name paths told e = (
 )
 
 -- ---- the directory above
-
-no_names : (names : Names) → length names ≡ 0 → names ≡ []
-no_names [] e = refl
-no_names (x ∷ names) e = absurd (omega arith)
 
 pub dir_root : (p : Place) (dir others : Names) (r : Result (Option Names) FsError) → length others ≡ 0 → others ≡ dir → FindsDir p dir r p
 dir_root p dir others r none same = λ nothing deep at once. absurd (deep (sym same ∙ no_names others none))

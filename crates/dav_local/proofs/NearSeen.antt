@@ -1,10 +1,12 @@
 -- Looks and openings of paths that are found by few calls.
-use Rattle.std.proofs.Common.{◌≡◌, ◌≤◌, ◌+◌, ◌||◌, ◌≢◌, ◌∷◌, ◌⊎◌, inl, inr, ℕ, Bool, true, false, cond, not, Option, None, Some, option_map, Result, Ok, Err, OnErr, refl, sym, ap, subst, ◌∙◌, arith}
+use Rattle.std.proofs.Common.{◌≡◌, ◌≤◌, ◌+◌, ◌≢◌, ◌∷◌, ◌⊎◌, inl, inr, ℕ, Bool, true, false, cond, not, Option, None, Some, option_map, Result, Ok, Err, OnErr, refl, sym, ap, subst, ◌∙◌, arith}
+use Rattle.std.proofs.lemmas.Bool.{or_parts, not-false}
 use Rattle.std.specs.Map.{lookup}
 use Rattle.std.specs.Option.{is_some, unwrap_or}
 use Rattle.dav_io.specs.Counts.{RefusedNothing}
 use Rattle.dav_io.specs.Told.{Both}
 use Rattle.dav_io.proofs.ToldLemmas.{told_after}
+use Rattle.dav_io.proofs.Rising.{no_rise}
 use Rattle.dav_core.specs.declared.error.FsError.{FsError}
 use Rattle.dav_core.specs.declared.handle.DiskError.{DiskError}
 use Rattle.dav_core.specs.declared.handle.Handle.{Handle}
@@ -48,8 +50,10 @@ use Rattle.dav_local.proofs.Counted.{calls_then, few_called, few_more, few_then,
 use Rattle.dav_local.proofs.FromRoot.{costs_behind, costs_known, costs_none, costs_unknown}
 use Rattle.dav_local.proofs.Memories.{error_of}
 use Rattle.dav_local.proofs.MostSeen.{looked_at_few}
-use Rattle.dav_local.proofs.Recalling.{no_refusal, no_rise, same_folds}
+use Rattle.dav_local.proofs.Recalling.{no_refusal, none_is}
 use Rattle.dav_local.proofs.NearFound.{got_unkept, in_as, nothing_after, nothing_before, seen_there, some_none, unseen}
+use Rattle.dav_local.proofs.Rows.{not_both}
+use Rattle.dav_local.proofs.Above.{same_folds}
 
 -- ---- sought, and then a call
 
@@ -257,16 +261,13 @@ opening_starved p q names e opens = called_once p q (Err e) opens.starved
 
 -- ---- what a look saves
 
-no_both : {A : Type 0} (b : Bool) → b ≡ true → b ≡ false → A
-no_both b e f = cc
-
 -- The two files that are looked for cost nothing.
 pub saves_virtual : (p q : Place) (path : WebPath) (r : Result Info FsError) → is_virtual (rules_of p.ways) path ≡ true → q ≡ p → SavesLook p path r q
 saves_virtual p q path r is same = record {
-  held = λ real. no_both (is_virtual (rules_of p.ways) path) is real;
-  here = λ real. no_both (is_virtual (rules_of p.ways) path) is real;
-  above = λ real. no_both (is_virtual (rules_of p.ways) path) is real;
-  kept = λ real. no_both (is_virtual (rules_of p.ways) path) is real;
+  held = λ real. not_both (is_virtual (rules_of p.ways) path) is real;
+  here = λ real. not_both (is_virtual (rules_of p.ways) path) is real;
+  above = λ real. not_both (is_virtual (rules_of p.ways) path) is real;
+  kept = λ real. not_both (is_virtual (rules_of p.ways) path) is real;
   most = costs_none 2 6 (is_known p.ways) p q path.names (ap (λ (x : Place). x.disk) same);
 }
 
@@ -284,10 +285,10 @@ saves_look p q path names slash r unknown same slashed held here above kept most
 pub looks_known : (p m q : Place) (path : WebPath) (names at : Names) (found : Result Names FsError) (follows slash : Bool) (r : Result Info FsError) → is_known p.ways ≡ true → Resolves p names found m
     → LooksAt follows slash at m r q → SavesLook p path r q
 looks_known p m q path names at found follows slash r known resolves looked = record {
-  held = λ real unknown. no_both (is_known p.ways) known unknown;
-  here = λ real unknown. no_both (is_known p.ways) known unknown;
-  above = λ real unknown. no_both (is_known p.ways) known unknown;
-  kept = λ real unknown. no_both (is_known p.ways) known unknown;
+  held = λ real unknown. not_both (is_known p.ways) known unknown;
+  here = λ real unknown. not_both (is_known p.ways) known unknown;
+  above = λ real unknown. not_both (is_known p.ways) known unknown;
+  kept = λ real unknown. not_both (is_known p.ways) known unknown;
   most =
       costs_known 2 6 (is_known p.ways) p q path.names known
       (subst (λ d. CallsAtMost 2 d q.disk) (ap (λ (x : Place). x.disk) (resolves.known known).0) (looked_at_few m q at follows slash r looked));
@@ -305,11 +306,11 @@ saves_open p q path names how r unknown same held here above most = record {
 -- What these rules shut costs none.
 pub shut_opening : (p : Place) (path : WebPath) (how : OpenOptions) → is_shut p.ways path ≡ true → IsOpening p path how (Err FsError.Forbidden) p × SavesOpen p path how (Err FsError.Forbidden) p
 shut_opening p path how is = (
-  record { forbidden = λ shut. (refl, refl); asked = λ unshut. no_both (is_shut p.ways path) is unshut },
+  record { forbidden = λ shut. (refl, refl); asked = λ unshut. not_both (is_shut p.ways path) is unshut },
   record {
-    held = λ unshut. no_both (is_shut p.ways path) is unshut;
-    here = λ unshut. no_both (is_shut p.ways path) is unshut;
-    above = λ unshut. no_both (is_shut p.ways path) is unshut;
+    held = λ unshut. not_both (is_shut p.ways path) is unshut;
+    here = λ unshut. not_both (is_shut p.ways path) is unshut;
+    above = λ unshut. not_both (is_shut p.ways path) is unshut;
     most = λ reads. costs_none 1 5 (is_known p.ways) p p path.names refl;
   },
 )
@@ -339,21 +340,12 @@ dir_begun p m q names at gathers wanted r finds first then begins nothing place 
     on_err r (CallsAtMost 3 p.disk q.disk)
     (few_then 1 2 p.disk m.disk q.disk (finds (nothing_before p.disk m.disk q.disk nothing first then) place once) (begun_few gathers at wanted m.disk r q.disk begins))
 
-none_is : {A : Type 0} (o : Option A) → is_some o ≡ false → o ≡ None
-none_is None e = refl
-none_is (Some x) e = cc
-
-not_known : (a b : Bool) → (a || not b) ≡ false → (a ≡ false) × (b ≡ true)
-not_known true b e = cc
-not_known false true e = (refl, refl)
-not_known false false e = cc
-
 pub saves_dir : (p m q : Place) (path : WebPath) (at : Names) (gathers : Bool) (wanted : ReadDirMeta) (r : Result LocalFsReadDir FsError) → (p.ways.alone ≡ None → p.ways.folds ≡ true → FindsAtOnce p path.names m)
     → p.disk.faults ≤ m.disk.faults → m.disk.faults ≤ q.disk.faults → BeginsDir gathers at wanted m.disk r q.disk → CostsBy (is_known p.ways) 0 4 p path.names m → SavesDir p path r q
 saves_dir p m q path at gathers wanted r finds first then begins most = record {
   held = λ known.
-      (let (alone, folds) = not_known (is_some p.ways.alone) p.ways.folds known in
-      dir_begun p m q path.names at gathers wanted r (finds (none_is p.ways.alone alone) folds) first then begins);
+      (let (alone, folding) = or_parts (is_some p.ways.alone) (not p.ways.folds) known in
+      dir_begun p m q path.names at gathers wanted r (finds (none_is p.ways.alone alone) (not-false p.ways.folds folding)) first then begins);
   most = costs_behind 2 0 4 2 6 (is_known p.ways) p m q path.names (omega arith) (omega arith) most (begun_few gathers at wanted m.disk r q.disk begins);
 }
 
@@ -362,7 +354,7 @@ pub unfound_dir : (p q : Place) (path : WebPath) (e : FsError) → (p.ways.alone
     → SavesDir p path (Err e) q
 unfound_dir p q path e finds most = record {
   held = λ known nothing place once.
-      (let (alone, folds) = not_known (is_some p.ways.alone) p.ways.folds known in
-      few_more 1 3 p.disk q.disk (omega arith) (finds (none_is p.ways.alone alone) folds nothing place once));
+      (let (alone, folding) = or_parts (is_some p.ways.alone) (not p.ways.folds) known in
+      few_more 1 3 p.disk q.disk (omega arith) (finds (none_is p.ways.alone alone) (not-false p.ways.folds folding) nothing place once));
   most = costs_behind 0 0 4 2 6 (is_known p.ways) p q q path.names (omega arith) (omega arith) most (inl refl);
 }

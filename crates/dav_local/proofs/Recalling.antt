@@ -1,10 +1,11 @@
 -- What the memory has of a path, and what it is told of one.
-use Rattle.std.proofs.Common.{ℕ, zero, suc, ◌-◌, cond, not, take, ◌≡◌, inl, inr, Bool, true, false, [], ◌∷◌, Option, None, Some, IfSome, Result, Ok, Err, refl, sym, ap, subst, ◌∙◌, arith}
+use Rattle.std.proofs.Common.{ℕ, zero, suc, ◌-◌, cond, not, take, ◌≡◌, Bool, true, false, [], ◌∷◌, Option, None, Some, IfSome, Result, Ok, Err, refl, sym, ap, subst, ◌∙◌}
 use Rattle.std.specs.Map.{lookup}
 use Rattle.std.specs.Option.{is_some}
-use Rattle.dav_io.specs.Counts.{RefusedNothing, Rose}
+use Rattle.dav_io.specs.Counts.{RefusedNothing}
 use Rattle.dav_io.specs.Told.{Both}
 use Rattle.dav_io.proofs.ToldLemmas.{told_after}
+use Rattle.dav_io.proofs.Rising.{no_rise}
 use Rattle.dav_io.specs.declared.clock.Moment.{Moment}
 use Rattle.dav_core.specs.declared.error.FsError.{FsError}
 use Rattle.dav_core.specs.declared.handle.DiskError.{DiskError}
@@ -24,21 +25,19 @@ use Rattle.dav_cache.specs.Calls.{Looks, LooksBy, Opening, Seeing, is_starved}
 use Rattle.dav_cache.specs.declared.cache.PathEntry.{PathEntry}
 use Rattle.dav_cache.specs.Entries.{PathCache, Paths, inserted, without}
 use Rattle.dav_cache.specs.Memory.{Gets, GetsBy, GetsOpen, Inserts, LearnsNothing, MemoryState}
-use Rattle.dav_cache.specs.Trees.{same_path, fold_name as kept_name, fold_path as kept_path}
-use Rattle.dav_model.specs.Folds.{fold_path}
+use Rattle.dav_cache.specs.Trees.{same_path, fold_path as kept_path}
 use Rattle.dav_local.specs.Made.{MadeAt}
 use Rattle.dav_local.specs.Places.{Place}
 use Rattle.dav_local.specs.Remembering.{AllPaths, IsFirst, IsNewFirst, IsRemembered}
 use Rattle.dav_local.specs.Walking.{KeepsPlace, Recalls, Remembers, RemembersIn, StandsAt}
-use Rattle.dav_local.proofs.Above.{had_there, told_next}
+use Rattle.dav_local.proofs.Above.{had_there, same_folds, told_next}
 use Rattle.dav_local.proofs.Dating.{made_got, made_inserted, made_same}
 use Rattle.dav_local.proofs.Keeping.{asked_keeps}
 use Rattle.dav_local.proofs.Memories.{learns_none, rows_same}
 
--- a memory folds as the rules do
-pub same_folds : (path : Names) → kept_path path ≡ fold_path path
-unfolding kept_path kept_name
-same_folds path = refl
+pub none_is : {A : Type 0} (o : Option A) → is_some o ≡ false → o ≡ None
+none_is None e = refl
+none_is (Some x) e = cc
 
 pub both_tell : {A : Type 0} (a b : Option A) (P : A → A → Type 0) → Both a b P → is_some b ≡ is_some a
 both_tell None None P both = refl
@@ -67,10 +66,6 @@ module _ {A : Type 0} (call : DiskState → Names → Result A DiskError → Dis
   got_first None (Some b) names s t f both = absurd both
   got_first (Some a) None names s t f both = absurd both
   got_first (Some a) (Some b) names s t f both = looked_first (lookup (same_path (kept_path names)) a.entries) a b names s t f both
-
-pub no_rise : (a b : ℕ) → RefusedNothing a b → Rose a b → ⊥
-no_rise a b nothing (inl lt) = absurd (omega (arith, nothing.same, lt))
-no_rise a b nothing (inr full) = absurd (omega (arith, nothing.room, full))
 
 -- What stands there is refused only because of a fault.
 pub no_refusal : (e : DiskError) (found : Result Row DiskError) (row : Row) → MayRefuseMeta e → Refused e found → found ≡ Ok row → (e ≡ Failed → ⊥) → ⊥

@@ -1,21 +1,23 @@
 -- Rows of a tree: what stands in a directory, which names fold alike there, and what stands behind a link.
-use Rattle.std.proofs.Common.{◌≡◌, ◌==◌, ◌≤◌, ◌<◌, ◌+◌, ◌-◌, ◌&&◌, ◌||◌, ◌⊎◌, inl, inr, ℕ, zero, suc, Bool, true, false, not, cond, List, [], ◌∷◌, ◌++◌, length, take, Option, None, Some, Result, Ok, refl, sym, ap, subst, ◌∙◌, append_assoc, append-nil, arith}
+use Rattle.std.proofs.Common.{◌≡◌, ◌==◌, ◌≤◌, ◌<◌, ◌+◌, ◌-◌, ◌&&◌, ◌||◌, ◌⊎◌, inl, inr, ℕ, zero, suc, Bool, true, false, not, cond, List, [], ◌∷◌, ◌++◌, length, take, Option, Some, Ok, refl, sym, ap, subst, ◌∙◌, append_assoc, append-nil, arith}
 use Rattle.std.specs.List.{list_all, list_any, slice_get}
 use Rattle.std.proofs.Math.Seq.{take-append_seam}
-use Rattle.std.proofs.lemmas.Bool.{and_parts}
+use Rattle.std.proofs.lemmas.Bool.{and_parts, false_from_ne_true, not-true, or_cases}
 use Rattle.std.proofs.lemmas.Bool.Decides.{nat_tests}
 use Rattle.std.proofs.lemmas.List.{length-append, length-map, map-append, take-append-le, take-take, length-take-le}
 use Rattle.std.proofs.Math.Seq.{get_or-append_seam}
 use Rattle.std.proofs.lemmas.Option.{slice_get-get_or}
-use Rattle.dav_core.specs.declared.handle.DiskError.{DiskError}
+use Rattle.dav_io.proofs.Cases.{second_test}
 use Rattle.dav_core.specs.declared.tree.Kind.{Kind}
 use Rattle.dav_core.specs.declared.tree.Kind.TheVariants.{Dir, File, Link}
 use Rattle.dav_core.specs.declared.tree.Row.{Row}
 use Rattle.dav_core.specs.DavPath.{last_name}
 use Rattle.dav_core.specs.Listing.{name_of, or_empty, stands_in}
 use Rattle.dav_core.specs.Path.{Names, is_front, parent_of, same_names}
-use Rattle.dav_core.specs.Tree.{below, below_kind, has_dir, is_apart, is_dir, is_dir_row, is_free, is_link, is_linked, is_placed, is_tree, look, look_from, row_at, standing}
+use Rattle.dav_core.specs.Tree.{below, below_kind, has_dir, is_apart, is_dir, is_free, is_link, is_linked, is_placed, look, look_from, row_at, standing}
 use Rattle.dav_core.proofs.Plain.{names_same}
+use Rattle.dav_core.proofs.Rows.{IsTree, dir_row, name_pushed}
+use Rattle.dav_core.proofs.LookLemmas.{below_ok, look_child, look_there, standing_row}
 use Rattle.dav_model.specs.Finding.{IsLoose, IsOf, is_alike}
 use Rattle.dav_model.specs.Folds.{Name, fold_name, fold_path, folds_like}
 use Rattle.dav_model.proofs.LooseWalks.{find_row, names_equal, parent_pushed}
@@ -24,28 +26,8 @@ use Rattle.dav_local.specs.Walking.{IsClearAt}
 
 -- ---- tests
 
-true_or_false : (b : Bool) → (b ≡ true) ⊎ (b ≡ false)
-true_or_false true = inl refl
-true_or_false false = inr refl
-
-never : {A : Type 0} (b : Bool) → b ≡ true → b ≡ false → A
-never b e f = cc
-
-or_false : (a b : Bool) → (a || b) ≡ false → (a ≡ false) × (b ≡ false)
-or_false true b e = cc
-or_false false b e = (refl, e)
-
-or_true : (a b : Bool) → (a || b) ≡ true → (a ≡ true) ⊎ (b ≡ true)
-or_true true b e = inl refl
-or_true false b e = inr e
-
-false_by : (b : Bool) → (b ≡ true → ⊥) → b ≡ false
-false_by true h = absurd (h refl)
-false_by false h = refl
-
-not_true : (b : Bool) → not b ≡ true → b ≡ false
-not_true true e = cc
-not_true false e = refl
+pub not_both : {A : Type 0} (b : Bool) → b ≡ true → b ≡ false → A
+not_both b e f = cc
 
 all_of : (f : Row → Bool) (rows : List Row) (x : Row) → list_all f rows ≡ true → IsOf x rows → f x ≡ true
 all_of f [] x e o = absurd o
@@ -55,12 +37,12 @@ all_of f (r ∷ rows) x e (inr o) = all_of f rows x (and_parts (f r) (list_all f
 pub none_of : (f : Row → Bool) (rows : List Row) → ((x : Row) → IsOf x rows → f x ≡ true → ⊥) → list_any f rows ≡ false
 none_of f [] h = refl
 none_of f (r ∷ rows) h =
-    let first : f r ≡ false = false_by (f r) (h r (inl refl)) in
+    let first : f r ≡ false = false_from_ne_true (f r) (h r (inl refl)) in
     ap (λ b. b || list_any f rows) first ∙ none_of f rows (λ x o. h x (inr o))
 
 one_of : (f : Row → Bool) (rows : List Row) → list_any f rows ≡ true → (x : Row) × IsOf x rows × (f x ≡ true)
 one_of f [] e = cc
-one_of f (r ∷ rows) e = elim (or_true (f r) (list_any f rows) e) [
+one_of f (r ∷ rows) e = elim (or_cases (f r) (list_any f rows) e) [
   | inl here ↦ (r, inl refl, here)
   | inr later ↦ let (x, o, t) = one_of f rows later in (x, inr o, t)
 ]
@@ -83,32 +65,8 @@ found_of (r ∷ rows) row apart (inl same) =
 found_of (r ∷ rows) row apart (inr o) =
     let p = and_parts (is_free rows r) (is_apart rows) apart in
     let free = all_of (λ other. not (same_names other.path r.path) && not (other.number == r.number)) rows row p.0 o in
-    let other = not_true (same_names row.path r.path) (and_parts (not (same_names row.path r.path)) (not (row.number == r.number)) free).0 in
+    let other = not-true (same_names row.path r.path) (and_parts (not (same_names row.path r.path)) (not (row.number == r.number)) free).0 in
     ap (λ b. cond b (Some r) (row_at rows row.path)) other ∙ found_of rows row p.1 o
-
-pub record IsTree (tree : List Row) : Type 0 where
-  pub root : has_dir tree [] ≡ true
-  pub placed : list_all (is_placed tree) tree ≡ true
-  pub apart : is_apart tree ≡ true
-
-pub tree_parts : (tree : List Row) → is_tree tree ≡ true → IsTree tree
-tree_parts tree e =
-    let t = and_parts (has_dir tree []) (list_all (is_placed tree) tree && is_apart tree) e in
-    let u = and_parts (list_all (is_placed tree) tree) (is_apart tree) t.1 in
-    record { root = t.0; placed = u.0; apart = u.1 }
-
-dir_kind : (k : Kind) → is_dir k ≡ true → k ≡ Dir
-dir_kind Dir e = refl
-dir_kind File e = cc
-dir_kind Link e = cc
-
-dir_row : (o : Option Row) → is_dir_row o ≡ true → (d : Row) × (o ≡ Some d) × (d.kind ≡ Dir)
-dir_row None e = cc
-dir_row (Some d) e = (d, refl, dir_kind d.kind e)
-
-below_root : (b x y : Bool) → b ≡ false → cond b x y ≡ true → y ≡ true
-below_root true x y e f = cc
-below_root false x y e f = f
 
 not_zero : (n : ℕ) → 0 < n → (n == 0) ≡ false
 not_zero n some = grind (arith, nat_tests)
@@ -117,7 +75,7 @@ not_zero n some = grind (arith, nat_tests)
 pub dir_above : (tree : List Row) (row : Row) → IsTree tree → IsOf row tree → 0 < length row.path → (d : Row) × (row_at tree (parent_of row.path) ≡ Some d) × (d.kind ≡ Dir)
 dir_above tree row is o some =
     dir_row (row_at tree (parent_of row.path))
-    (below_root (length row.path == 0) (is_dir row.kind) (has_dir tree (parent_of row.path)) (not_zero (length row.path) some) (all_of (is_placed tree) tree row is.placed o))
+    (second_test (length row.path == 0) (is_dir row.kind) (has_dir tree (parent_of row.path)) (not_zero (length row.path) some) (all_of (is_placed tree) tree row is.placed o))
 
 pushed_some : (at : Names) (name : Name) (path : Names) → path ≡ at ++ name ∷ [] → 0 < length path
 pushed_some at name path e = rw (e, length-append at (name ∷ [])) (omega arith)
@@ -129,42 +87,11 @@ dir_of tree row at name is o path =
 
 -- ---- looks
 
-standing_some : (o : Option Row) (row : Row) → standing o ≡ Ok row → o ≡ Some row
-standing_some None row e = cc
-standing_some (Some r) row e = cc
-
-kind_ok : (kind : Kind) (found : Result Row DiskError) (row : Row) → below_kind kind found ≡ Ok row → (kind ≡ Dir) × (found ≡ Ok row)
-kind_ok Dir found row e = (refl, e)
-kind_ok File found row e = cc
-kind_ok Link found row e = cc
-
-below_ok : (o : Option Row) (found : Result Row DiskError) (row : Row) → below o found ≡ Ok row → (at : Row) × (o ≡ Some at) × (at.kind ≡ Dir) × (found ≡ Ok row)
-below_ok None found row e = cc
-below_ok (Some at) found row e = let p = kind_ok at.kind found row e in (at, refl, p.0, p.1)
-
-row_from : (tree : List Row) (at names : Names) (row : Row) → look_from tree at names ≡ Ok row → row_at tree (at ++ names) ≡ Some row
-row_from tree at [] row e = subst (λ z. row_at tree z ≡ Some row) (sym (append-nil at)) (standing_some (row_at tree at) row e)
-row_from tree at (name ∷ names) row e =
-    let (over, is, kind, rest) = below_ok (row_at tree at) (look_from tree (at ++ name ∷ []) names) row e in
-    subst (λ z. row_at tree z ≡ Some row) (append_assoc at (name ∷ []) names) (row_from tree (at ++ name ∷ []) names row rest)
-
 pub looked_row : (tree : List Row) (path : Names) (row : Row) → look tree path ≡ Ok row → row_at tree path ≡ Some row
-looked_row tree path row e = row_from tree [] path row e
+looked_row tree path row e = look_there tree [] path row e
 
 pub row_is : (tree : List Row) (path : Names) (row : Row) → row_at tree path ≡ Some row → IsOf row tree × (row.path ≡ path)
 row_is tree path row e = let (same, o) = find_row (λ r. same_names path r.path) tree row e in (o, sym (names_same path row.path same))
-
-through : (o : Option Row) (at : Row) (found : Result Row DiskError) → o ≡ Some at → at.kind ≡ Dir → below o found ≡ found
-through o at found is kind = ap (λ x. below x found) is ∙ ap (λ k. below_kind k found) kind
-
-child_from : (tree : List Row) (at names : Names) (name : Name) (dir row : Row) → look_from tree at names ≡ Ok dir → dir.kind ≡ Dir
-    → row_at tree (at ++ (names ++ name ∷ [])) ≡ Some row → look_from tree at (names ++ name ∷ []) ≡ Ok row
-child_from tree at [] name dir row looked kind found =
-    through (row_at tree at) dir (standing (row_at tree (at ++ name ∷ []))) (standing_some (row_at tree at) dir looked) kind ∙ ap standing found
-child_from tree at (first ∷ names) name dir row looked kind found =
-    let (over, is, over_kind, rest) = below_ok (row_at tree at) (look_from tree (at ++ first ∷ []) names) dir looked in
-    through (row_at tree at) over (look_from tree (at ++ first ∷ []) (names ++ name ∷ [])) is over_kind
-    ∙ child_from tree (at ++ first ∷ []) names name dir row rest kind (ap (row_at tree) (append_assoc at (first ∷ []) (names ++ name ∷ [])) ∙ found)
 
 same_some : (a b : Row) → ◌≡◌ {A = Option Row} (Some a) (Some b) → a ≡ b
 same_some a b e = cc
@@ -177,15 +104,12 @@ is_directory tree at name d row is looked o path =
 
 pub stands_below : (tree : List Row) (at : Names) (name : Name) (d row : Row) → IsTree tree → look tree at ≡ Ok d → IsOf row tree → row.path ≡ at ++ name ∷ [] → look tree (at ++ name ∷ []) ≡ Ok row
 stands_below tree at name d row is looked o path =
-    child_from tree [] at name d row looked (is_directory tree at name d row is looked o path) (ap (row_at tree) (sym path) ∙ found_of tree row is.apart o)
+    look_child tree [] at name d row looked (is_directory tree at name d row is looked o path) (ap (row_at tree) (sym path) ∙ found_of tree row is.apart o)
 
 -- ---- names that fold alike
 
-folded_push : (at : Names) (x n : Name) → fold_name x ≡ fold_name n → fold_path (at ++ x ∷ []) ≡ fold_path (at ++ n ∷ [])
-folded_push at x n e = map-append fold_name at (x ∷ []) ∙ ap (λ y. fold_path at ++ y ∷ []) e ∙ sym (map-append fold_name at (n ∷ []))
-
 pub folds_alike : (at : Names) (x n : Name) → fold_name x ≡ fold_name n → fold_path (at ++ x ∷ []) ≡ fold_path (at ++ n ∷ [])
-folds_alike at x n e = folded_push at x n e
+folds_alike at x n e = map-append fold_name at (x ∷ []) ∙ ap (λ y. fold_path at ++ y ∷ []) e ∙ sym (map-append fold_name at (n ∷ []))
 
 alike_by : (a b c : Bool) → b ≡ true → c ≡ true → (a || (true && (b && c))) ≡ true
 alike_by true b c e f = refl
@@ -195,7 +119,7 @@ alike_by false false c e f = cc
 
 pub alike_is : (at : Names) (x n : Name) (r : Row) → r.path ≡ at ++ x ∷ [] → fold_name x ≡ fold_name n → is_alike true at n r ≡ true
 alike_is at x n r e f = alike_by (same_names (at ++ n ∷ []) r.path) (same_names (parent_of r.path) at) (folds_like r.path (at ++ n ∷ []))
-    (names_equal _ _ (ap parent_of e ∙ parent_pushed at x)) (names_equal _ _ (ap fold_path e ∙ folded_push at x n f))
+    (names_equal _ _ (ap parent_of e ∙ parent_pushed at x)) (names_equal _ _ (ap fold_path e ∙ folds_alike at x n f))
 
 same_last : (a : Names) (x y : Name) → a ++ x ∷ [] ≡ a ++ y ∷ [] → x ≡ y
 same_last [] x y e = cc
@@ -209,7 +133,7 @@ last_at (x ∷ y ∷ path) zero e = absurd (omega arith)
 last_at (x ∷ y ∷ path) (suc n) e = let (z, is) = last_at (y ∷ path) n (omega arith) in (z, ap (λ w. x ∷ w) is)
 
 pub alike_splits : (at : Names) (n : Name) (r : Row) → is_alike true at n r ≡ true → (x : Name) × (r.path ≡ at ++ x ∷ []) × (fold_name x ≡ fold_name n)
-alike_splits at n r e = elim (or_true (same_names (at ++ n ∷ []) r.path) (same_names (parent_of r.path) at && folds_like r.path (at ++ n ∷ [])) e) [
+alike_splits at n r e = elim (or_cases (same_names (at ++ n ∷ []) r.path) (same_names (parent_of r.path) at && folds_like r.path (at ++ n ∷ [])) e) [
   | inl same ↦ (n, sym (names_same _ _ same), refl)
   | inr both ↦ let (parent, folded) = and_parts (same_names (parent_of r.path) at) (folds_like r.path (at ++ n ∷ [])) both in
       split (names_same _ _ parent) (names_same _ _ folded)
@@ -259,7 +183,7 @@ link_at tree at name clear linked =
       link,
       elim (front_pushed l.path at name front) [
         | inl here ↦ here
-        | inr before ↦ never (is_linked tree at) (any_of (λ row. is_link row.kind && is_front row.path at) tree l o (rw (link, before) refl)) clear
+        | inr before ↦ not_both (is_linked tree at) (any_of (λ row. is_link row.kind && is_front row.path at) tree l o (rw (link, before) refl)) clear
       ],
     )
 
@@ -319,7 +243,7 @@ row_before tree at n names is linked clear =
   where
     at_link : (l : Row) → IsOf l tree → is_link l.kind ≡ true → l.path ≡ take (length l.path) (at ++ n ∷ names) → (d : Row) × IsOf d tree × (d.path ≡ at ++ n ∷ [])
     at_link l o link path = elim (le_or (length l.path) (length at + 1)) [
-      | inl short ↦ never (is_linked tree (at ++ n ∷ []))
+      | inl short ↦ not_both (is_linked tree (at ++ n ∷ []))
           (any_of (λ row. is_link row.kind && is_front row.path (at ++ n ∷ [])) tree l o (rw (link, names_equal l.path (take (length l.path) (at ++ n ∷ [])) (path ∙ front_of short)) refl)) clear
       | inr long ↦
           let (d, od, is_at) = front_stands (length l.path - (length at + 1)) tree l (length at + 1) is o (omega (arith, long)) in
@@ -338,7 +262,7 @@ row_before tree at n names is linked clear =
 -- Where a link stands on the way to a path, a walk of a path that folds alike comes to it, and ends behind it.
 pub linked_alike : (tree : List Row) (at found names : Names) → IsTree tree → IsClearAt tree at → is_linked tree (at ++ found) ≡ true → fold_path found ≡ fold_path names
     → (end : Names) × IsLoose true tree at names end × (is_linked tree end ≡ true)
-linked_alike tree at [] names is here linked folds = never (is_linked tree at) (ap (is_linked tree) (sym (append-nil at)) ∙ linked) here.clear
+linked_alike tree at [] names is here linked folds = not_both (is_linked tree at) (ap (is_linked tree) (sym (append-nil at)) ∙ linked) here.clear
 linked_alike tree at (x ∷ found) [] is here linked folds = cc
 linked_alike tree at (x ∷ found) (n ∷ names) is here linked folds =
     let head : fold_name x ≡ fold_name n = cc in
@@ -363,7 +287,7 @@ nothing_below tree at name more row is none stands =
     let (o, path) = row_is tree (at ++ name ∷ more) row (looked_row tree (at ++ name ∷ more) row stands) in
     let long : length row.path ≡ length at + suc (length more) = ap length path ∙ length-append at (name ∷ more) in
     let (d, od, front) = front_stands (length more) tree row (length at + 1) is o (omega (arith, long)) in
-    never (list_any (is_alike true at name) tree)
+    not_both (list_any (is_alike true at name) tree)
     (any_of (is_alike true at name) tree d od (alike_is at name name d (front ∙ ap (take (length at + 1)) path ∙ front_at at name more) refl)) none
 
 -- Above what stands something stands.
@@ -380,7 +304,7 @@ pub unlinked_above : (tree : List Row) (at more : Names) → is_linked tree (at 
 unlinked_above tree at more clear = by_link (is_linked tree at) refl
   where
     by_link : (b : Bool) → is_linked tree at ≡ b → is_linked tree at ≡ false
-    by_link true e = never (is_linked tree (at ++ more)) (linked_below tree at more e) clear
+    by_link true e = not_both (is_linked tree (at ++ more)) (linked_below tree at more e) clear
     by_link false e = e
 
 -- What is above a clear place is clear.
@@ -411,7 +335,7 @@ stood_then tree at (x ∷ found) (n ∷ names) rest end row e f loose =
     )
   where
     starts : (tree : List Row) (at names : Names) (row : Row) → look_from tree at names ≡ Ok row → (r : Row) × (row_at tree at ≡ Some r)
-    starts tree at [] row e = (row, standing_some (row_at tree at) row e)
+    starts tree at [] row e = (row, standing_row (row_at tree at) row e)
     starts tree at (name ∷ names) row e = let (over, is, kind, rest) = below_ok (row_at tree at) (look_from tree (at ++ name ∷ []) names) row e in (over, is)
 
 pub stood_loosely : (tree : List Row) (at found names : Names) (row : Row) → look_from tree at found ≡ Ok row → fold_path found ≡ fold_path names
@@ -429,9 +353,6 @@ last_pushed at name = ap or_empty last
         let place : length (at ++ name ∷ []) - 1 ≡ length at = omega (arith, long) in
         ap (slice_get (at ++ name ∷ [])) place ∙ slice_get-get_or (at ++ name ∷ []) (length at) name (omega (arith, long)) ∙ ap (λ x. Some x) (get_or-append_seam at name [] name)
 
-name_pushed : (at : Names) (name : Name) (row : Row) → row.path ≡ at ++ name ∷ [] → name_of row ≡ name
-name_pushed at name row path = ap (λ p. or_empty (last_name p)) path ∙ last_pushed at name
-
 pub name_in : (at : Names) (name : Name) (row : Row) → row.path ≡ at ++ name ∷ [] → (stands_in at row ≡ true) × (name_of row ≡ name)
 name_in at name row path = (both (length row.path == length at + 1) (is_front at row.path) long front, name_pushed at name row path)
   where
@@ -446,18 +367,6 @@ name_in at name row path = (both (length row.path == length at + 1) (is_front at
 
     front : is_front at row.path ≡ true
     front = names_equal at (take (length at) row.path) (sym (ap (take (length at)) path ∙ take-append_seam at (name ∷ [])))
-
-equal_numbers : (n k : ℕ) → (n == k) ≡ true → n ≡ k
-equal_numbers n k t = grind (arith, nat_tests)
-
-pub path_in : (at : Names) (row : Row) → stands_in at row ≡ true → row.path ≡ at ++ name_of row ∷ []
-path_in at row stands =
-    let p = and_parts (length row.path == length at + 1) (is_front at row.path) stands in
-    let long : length row.path ≡ length at + 1 = equal_numbers (length row.path) (length at + 1) p.0 in
-    let front : at ≡ take (length at) row.path = names_same at (take (length at) row.path) p.1 in
-    let (x, is) = last_at row.path (length at) (omega (arith, long)) in
-    let path : row.path ≡ at ++ x ∷ [] = is ∙ ap (λ z. z ++ x ∷ []) (sym front) in
-    path ∙ ap (λ z. at ++ z ∷ []) (sym (name_pushed at x row path))
 
 -- a path that has names is its parent's and its last
 pub splits : (at : Names) → 0 < length at → at ≡ parent_of at ++ or_empty (last_name at) ∷ []

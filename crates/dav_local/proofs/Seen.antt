@@ -1,8 +1,9 @@
 -- The call by which a path is found is the call that is asked for there.
-use Rattle.std.proofs.Common.{◌≡◌, ◌≤◌, ◌&&◌, ◌||◌, ◌⊎◌, inl, inr, Bool, true, false, not, Option, None, Some, option_map, Result, Ok, Err, refl, sym, ap, subst, ◌∙◌, arith}
+use Rattle.std.proofs.Common.{◌≡◌, ◌≤◌, ◌&&◌, ◌||◌, ◌⊎◌, inl, inr, Bool, true, false, not, Option, None, Some, option_map, Result, Ok, Err, refl, sym, ap, subst, ◌∙◌}
+use Rattle.std.proofs.lemmas.Bool.{or_parts, not-false}
 use Rattle.std.specs.Map.{lookup}
 use Rattle.std.specs.Option.{is_some, unwrap_or}
-use Rattle.dav_io.specs.Counts.{RefusedNothing, Rose}
+use Rattle.dav_io.specs.Counts.{Rose}
 use Rattle.dav_io.proofs.ToldLemmas.{told_after}
 use Rattle.dav_core.specs.declared.error.FsError.{FsError}
 use Rattle.dav_core.specs.declared.handle.DiskError.{DiskError}
@@ -19,8 +20,10 @@ use Rattle.dav_core.specs.Path.{Names}
 use Rattle.dav_core.specs.Unchanged.{Keeps}
 use Rattle.dav_core.specs.World.{IsWorld, World}
 use Rattle.dav_core.proofs.UnchangedLemmas.{keeps_same}
+use Rattle.dav_core.proofs.Rows.{tree_parts}
 use Rattle.dav_store.specs.Files.{AsksOnce}
 use Rattle.dav_store.specs.Frames.{OpensOne}
+use Rattle.dav_store.proofs.Staying.{open_kept}
 use Rattle.dav_cache.specs.Calls.{LacksMemory, LooksBy, Opening, Seeing}
 use Rattle.dav_cache.specs.Memory.{Gets, GetsBy, GetsOpen}
 use Rattle.dav_cache.specs.Trees.{same_path, fold_path as kept_path}
@@ -37,14 +40,16 @@ use Rattle.dav_local.specs.Walking.{Misses, RecallsBy, StandsAt, Walks}
 use Rattle.dav_local.specs.Ways.{is_known, rules_of}
 use Rattle.dav_local.proofs.Coming.{walk_starved}
 use Rattle.dav_local.proofs.Dating.{made_got}
-use Rattle.dav_local.proofs.Framing.{keeps_open, opens_after}
+use Rattle.dav_local.proofs.Framing.{opens_after}
 use Rattle.dav_local.proofs.Found.{alike_ends, walk_whole, walks_after}
 use Rattle.dav_local.proofs.Keeping.{metas_keep}
 use Rattle.dav_local.proofs.Memories.{error_of, place_disk, rows_same}
 use Rattle.dav_local.proofs.Opened.{opened_one, unopened_keeps}
-use Rattle.dav_local.proofs.Recalling.{both_tell, got_first, got_held, got_rows, opened_held, path_of, recalls_starved, same_folds}
+use Rattle.dav_local.proofs.Recalling.{both_tell, got_first, got_held, got_rows, none_is, opened_held, path_of, recalls_starved}
 use Rattle.dav_local.proofs.Resolved.{resolves_walked}
-use Rattle.dav_local.proofs.Rows.{tree_parts}
+use Rattle.dav_local.proofs.Rows.{not_both}
+use Rattle.dav_local.proofs.Above.{same_folds}
+use Rattle.dav_local.proofs.NearFound.{nothing_before}
 
 -- ---- before the call by which a path was found, and after it
 
@@ -172,36 +177,24 @@ finds_failed p t names call keeps rose = (
   (refl, refl),
 )
 
-no_known : (a b : Bool) → (a || not b) ≡ false → (a ≡ false) × (b ≡ true)
-no_known true b e = cc
-no_known false true e = (refl, refl)
-no_known false false e = cc
-
-none_is : {A : Type 0} (o : Option A) → is_some o ≡ false → o ≡ None
-none_is None e = refl
-none_is (Some x) e = cc
-
 -- A path that isn't known is found by folding.
 pub finds_walked : {T : Type 0} (p q : Place) (names : Names) (call : Names → Place → Result T FsError → Place → Type 0) (r : Result T FsError) → ((w : World) → p.disk.told ≡ Some w → IsWorld w)
     → is_known p.ways ≡ false → FindsAlike p names call r q → Finds p names call r q
 finds_walked p q names call r worlds known (found, m, walks, after) =
-    let (alone, folds) = no_known (is_some p.ways.alone) p.ways.folds known in
-    (found, m, resolves_walked p m names found worlds (none_is p.ways.alone alone) folds walks, after)
+    let (alone, folding) = or_parts (is_some p.ways.alone) (not p.ways.folds) known in
+    (found, m, resolves_walked p m names found worlds (none_is p.ways.alone alone) (not-false p.ways.folds folding) walks, after)
 
 -- ---- looks
 
-not_judged : (a b c : Bool) → (a && (b || c)) ≡ false → ((a && b) ≡ false) × ((a && c) ≡ false)
+pub not_judged : (a b c : Bool) → (a && (b || c)) ≡ false → ((a && b) ≡ false) × ((a && c) ≡ false)
 not_judged true true c e = cc
 not_judged true false c e = (refl, e)
 not_judged false b c e = (refl, refl)
 
-no_both : {A : Type 0} (b : Bool) → b ≡ true → b ≡ false → A
-no_both b e f = cc
-
 tells_present : (p : Place) (at : Names) → is_judged p.ways at ≡ false → TellsAbsent p at (Ok false) p
 tells_present p at e =
     let (plain, here) = not_judged p.ways.macos (is_dot (or_empty (last_name at))) (is_localized at) e in
-    record { ways = refl; plain = λ asks. (refl, ap (λ b. Ok b) (sym here)); dots = λ asks. no_both (p.ways.macos && is_dot (or_empty (last_name at))) asks plain; starved = tt }
+    record { ways = refl; plain = λ asks. (refl, ap (λ b. Ok b) (sym here)); dots = λ asks. not_both (p.ways.macos && is_dot (or_empty (last_name at))) asks plain; starved = tt }
 
 -- What a look found by which the path was found is its answer.
 pub look_found : (p m q : Place) (names at : Names) (meta : Meta) (slash : Bool) (r : Result Info FsError) → Walks p names (Ok at) (record m { disk = p.disk }) → Metas p.disk at (Ok meta) m.disk
@@ -233,14 +226,11 @@ sees_once p q names found gets = record {
     by_found at None both = both
     by_found at (Some f) both = both
 
-nothing_so_far : (s m t : DiskState) → RefusedNothing s.faults t.faults → s.faults ≤ m.faults → m.faults ≤ t.faults → RefusedNothing s.faults m.faults
-nothing_so_far s m t nothing first then = record { same = omega (arith, nothing.same, first, then); room = omega (arith, nothing.room, then) }
-
 -- What the memory has costs the call by which it was seen.
 pub look_saved : (p m q : Place) (names there : Names) (meta : Meta) (slash : Bool) (found : Option (Names × Meta)) (r : Result Info FsError) → SeesOnce p names (Ok found) m
     → found ≡ Some (there, meta) → m.ways ≡ p.ways → AnswersSeen there meta slash m r q → Keeps p.disk m.disk → Keeps m.disk q.disk → SavesAt p names r q
 look_saved p m q names there meta slash found r sees is ways answers first then = λ known nothing at held judged.
-    let (same, once) = sees.saved (nothing_so_far p.disk m.disk q.disk nothing first.counts then.counts) at held in
+    let (same, once) = sees.saved (nothing_before p.disk m.disk q.disk nothing first.counts then.counts) at held in
     let here : at ≡ there = (let e : Some at ≡ Some there = sym same ∙ ap (option_map (λ (f : Names × Meta). f.0)) is in cc) in
     let (answer, still) = answers.seen (ap (λ w. is_judged w there) ways ∙ ap (is_judged p.ways) (sym here) ∙ judged) in
     inl (subst (λ (d : DiskState). AsksOnce p.disk d) (sym (ap (λ (x : Place). x.disk) still)) once)
@@ -249,7 +239,7 @@ look_saved p m q names there meta slash found r sees is ways answers first then 
 pub look_unknown : (p m q : Place) (names : Names) (found : Option (Names × Meta)) (r : Result Info FsError) → SeesOnce p names (Ok found) m → found ≡ None → Keeps p.disk m.disk → Keeps m.disk q.disk
     → SavesAt p names r q
 look_unknown p m q names found r sees is first then = λ known nothing at held judged.
-    let (same, once) = sees.saved (nothing_so_far p.disk m.disk q.disk nothing first.counts then.counts) at held in
+    let (same, once) = sees.saved (nothing_before p.disk m.disk q.disk nothing first.counts then.counts) at held in
     let never : ◌≡◌ {A = Option Names} None (Some at) = sym (ap (option_map (λ (f : Names × Meta). f.0)) is) ∙ same in cc
 
 pub look_starved : (p q : Place) (names : Names) (e : FsError) → SeesOnce p names (Err e) q → SavesAt p names (Err e) q
@@ -279,7 +269,7 @@ open_saved p q names found r opens = λ known nothing at held. let (same, once) 
 pub open_unknown : (p m q : Place) (names : Names) (found : Option (Names × Handle)) (r : Result LocalFsFile FsError) → OpensOnce p names (Ok found) m → found ≡ None → p.disk.faults ≤ m.disk.faults
     → m.disk.faults ≤ q.disk.faults → SavesOpening p names r q
 open_unknown p m q names found r opens is first then = λ known nothing at held.
-    let (same, once) = opens.saved (nothing_so_far p.disk m.disk q.disk nothing first then) at held in
+    let (same, once) = opens.saved (nothing_before p.disk m.disk q.disk nothing first then) at held in
     let never : ◌≡◌ {A = Option Names} None (Some at) = sym (ap (option_map (λ (f : Names × Handle). f.0)) is) ∙ same in cc
 
 -- where nothing was found, nothing but faults may have been counted
@@ -344,7 +334,7 @@ opened_there s m t how r keeps is one =
     opens_after local_file reading s m t r keeps (subst (λ o. OpensOne local_file o m r t) is one)
 
 pub opened_nothing : (s t : DiskState) (e : FsError) → Keeps s t → OpensOne local_file reading s (Err e) t
-opened_nothing s t e keeps = record { others = keeps_open s t keeps; kept = λ is. keeps }
+opened_nothing s t e keeps = record { others = open_kept s t keeps; kept = λ is. keeps }
 
 -- ---- the calls of the store
 
@@ -353,7 +343,7 @@ pub look_asked : (p q : Place) (path : WebPath) (names : Names) (slash follows :
     → Looks follows p path r q
 look_asked p q path names slash follows r worlds is real known same slashed finds =
     subst (λ f. Looks f p path r q) (sym is) (record {
-      empty = λ e. no_both (is_virtual (rules_of p.ways) path) e real;
+      empty = λ e. not_both (is_virtual (rules_of p.ways) path) e real;
       asked = λ e.
           subst (λ s. Finds p path.names (LooksAt true s) r q) slashed
           (subst (λ n. Finds p n (LooksAt true slash) r q) same (finds_walked p q names (LooksAt true slash) r worlds known finds));
@@ -362,7 +352,7 @@ look_asked p q path names slash follows r worlds is real known same slashed find
 pub open_asked : (p q : Place) (path : WebPath) (names : Names) (how : OpenOptions) (r : Result LocalFsFile FsError) → ((w : World) → p.disk.told ≡ Some w → IsWorld w)
     → is_shut p.ways path ≡ false → how ≡ reading → is_known p.ways ≡ false → names ≡ path.names → FindsAlike p names (OpensAt reading) r q → IsOpening p path how r q
 open_asked p q path names how r worlds shut is known same finds = record {
-  forbidden = λ e. no_both (is_shut p.ways path) e shut;
+  forbidden = λ e. not_both (is_shut p.ways path) e shut;
   asked = λ e.
       subst (λ o. Finds p path.names (OpensAt o) r q) (sym is)
       (subst (λ n. Finds p n (OpensAt reading) r q) same (finds_walked p q names (OpensAt reading) r worlds known finds));

@@ -1,8 +1,8 @@
 -- What a local store shows over a told disk is what the rules show where its path is found.
-use Rattle.std.proofs.Common.{◌≡◌, ◌==◌, ◌||◌, ◌⊎◌, inl, inr, ℕ, Bool, true, false, List, [], ◌∷◌, Option, None, Some, Result, Ok, Err, refl, sym, ap, subst, ◌∙◌, arith}
+use Rattle.std.proofs.Common.{◌≡◌, ◌==◌, ◌⊎◌, inl, inr, ℕ, Bool, true, false, List, [], ◌∷◌, Option, None, Some, Result, Ok, Err, refl, sym, ap, subst, ◌∙◌}
+use Rattle.std.proofs.lemmas.Bool.{or_right, or_left, eq-eqb}
 use Rattle.std.specs.List.{AllByRecursion}
 use Rattle.std.specs.Option.{option_map}
-use Rattle.std.proofs.lemmas.Bool.Decides.{nat_tests}
 use Rattle.dav_io.proofs.ToldLemmas.{told_after}
 use Rattle.dav_core.specs.declared.handle.DiskError.{DiskError}
 use Rattle.dav_core.specs.declared.handle.DiskError.TheVariants.{NotFound, NotDir, IsDir, Exists, NotEmpty, Failed, NoMemory}
@@ -16,7 +16,7 @@ use Rattle.dav_core.specs.Errors.{fs_error_of}
 use Rattle.dav_core.specs.Info.{Info, info_of, known}
 use Rattle.dav_core.specs.Writing.{reading}
 use Rattle.dav_core.specs.Path.{Names}
-use Rattle.dav_core.specs.Tree.{is_file, is_linked, look}
+use Rattle.dav_core.specs.Tree.{is_linked, look}
 use Rattle.dav_core.specs.Unchanged.{SameBesidesOpens}
 use Rattle.dav_core.specs.World.{IsWorld, Stored, World, bytes_of, bytes_or_none, is_numbered, put, time_of}
 use Rattle.dav_core.proofs.UnchangedLemmas.{put_same}
@@ -27,6 +27,7 @@ use Rattle.dav_local.specs.declared.file.LocalFsFile.{LocalFsFile}
 use Rattle.dav_local.specs.Files.{filed, looked_as, seen_by}
 use Rattle.dav_local.specs.Standing.{found, seen_in, seen_with, standing_as, standing_of, under_slash}
 use Rattle.dav_core.proofs.LookLemmas.{look_all, stored_time}
+use Rattle.dav_core.proofs.Rows.{file_kind}
 
 -- a refusal that the tree calls for, or a fault or want of memory
 refused : {T U V : Type 0} (e : DiskError) (stands : Result U DiskError) (answer : Result T DiskError) (s t : DiskState) → Refused e stands → answer ≡ Err e → Asks answer s t
@@ -62,11 +63,6 @@ looks_in : (w : World) (at : Names) (slash : Bool) (answer : Result Meta DiskErr
 looks_in w at slash (Ok m) s t (row, stands, is) asks = inl (rw stands (under_kinds slash row.kind m.kind (info_of m) (standing_of w row) is.kind (agrees m w row is)))
 looks_in w at slash (Err e) s t r asks = elim (refused {V = Info} e (look w.tree at) (Err e) s t r refl asks) [ inl f ↦ inl (rw f refl) | inr x ↦ inr x ]
 
-a_file : (kind : Kind) → is_file kind ≡ true → kind ≡ File
-a_file Dir e = cc
-a_file File e = refl
-a_file Link e = cc
-
 -- a file at this place is stored with its row's time
 abbrev StoredAt : World → Names → Type 0
 StoredAt w at = (row : Row) → look w.tree at ≡ Ok row → row.kind ≡ File → time_of w row.number ≡ Some row.time
@@ -76,7 +72,7 @@ is_there w path row stored stands = record {
   number = refl;
   kind = refl;
   place = refl;
-  file = λ file. ap (λ time. record { stands = standing_as row.kind row.number time (bytes_of w row.number); place = 0 }) (stored row stands (a_file row.kind file));
+  file = λ file. ap (λ time. record { stands = standing_as row.kind row.number time (bytes_of w row.number); place = 0 }) (stored row stands (file_kind row.kind file));
 }
 
 -- what a handle shows after an opening
@@ -109,21 +105,14 @@ opens_in w at (Err e) s t is told clear opens =
 
 -- ---- a world in which others are open shows the same
 
-numbered_here : (n : ℕ) (later : Bool) → ((n == n) || later) ≡ true
-numbered_here n later = grind (arith, nat_tests)
-
-numbered_later : (b later : Bool) → later ≡ true → (b || later) ≡ true
-numbered_later true later e = refl
-numbered_later false later e = e
-
 pub each_numbered : (tree rows : List Row) → ((n : ℕ) → is_numbered rows n ≡ true → is_numbered tree n ≡ true) → AllByRecursion (λ (r : Row). is_numbered tree r.number ≡ true) rows
 each_numbered tree [] up = tt
 each_numbered tree (r ∷ rows) up = (
-  up r.number (numbered_here r.number (is_numbered rows r.number)),
-  each_numbered tree rows (λ n e. up n (numbered_later (n == r.number) (is_numbered rows n) e)),
+  up r.number (or_left (r.number == r.number) (is_numbered rows r.number) (eq-eqb r.number r.number refl)),
+  each_numbered tree rows (λ n e. up n (or_right (n == r.number) (is_numbered rows n) e)),
 )
 
-found_numbered : (tree : List Row) (path : Names) (row : Row) → look tree path ≡ Ok row → is_numbered tree row.number ≡ true
+pub found_numbered : (tree : List Row) (path : Names) (row : Row) → look tree path ≡ Ok row → is_numbered tree row.number ≡ true
 found_numbered tree path row e = look_all (λ r. is_numbered tree r.number ≡ true) tree path row (each_numbered tree tree (λ n e. e)) e
 
 same_row : (w v : World) (slash : Bool) (at : Names) (stands : Result Row DiskError) → SameBesidesOpens w v → look v.tree at ≡ stands → found v slash stands ≡ found w slash stands

@@ -1,11 +1,12 @@
 -- The steps of a walk that finds names by folding.
-use Rattle.std.proofs.Common.{◌≡◌, ◌≤◌, ◌||◌, ◌⊎◌, inl, inr, Bool, true, false, List, [], ◌∷◌, ◌++◌, map, Option, None, Some, Result, Ok, Err, refl, sym, ap, subst, ◌∙◌, cond}
+use Rattle.std.proofs.Common.{◌≡◌, ◌≤◌, ◌⊎◌, inl, inr, Bool, true, false, List, [], ◌∷◌, ◌++◌, map, Option, None, Some, Result, Ok, Err, refl, sym, ap, subst, ◌∙◌, cond}
 use Rattle.std.specs.List.{AllByRecursion, filter, list_any}
 use Rattle.std.specs.List.Sorted.{IsPermutation}
 use Rattle.std.specs.Str.{bytes_eq}
 use Rattle.std.proofs.lemmas.List.Elements.{All-from_recursion, recursion_from_All}
 use Rattle.std.proofs.lemmas.List.Sorted.{All-permutation, IsPermutation-sym}
 use Rattle.std.proofs.lemmas.Slice.Eq.{slice_eq-Decides}
+use Rattle.std.proofs.lemmas.Bool.{or_parts}
 use Rattle.std.specs.Cmp.{unsigned_Decides}
 use Rattle.dav_io.proofs.ToldLemmas.{told_after}
 use Rattle.dav_core.specs.declared.error.FsError.{FsError}
@@ -23,6 +24,7 @@ use Rattle.dav_core.specs.Tree.{below_kind, is_linked, look}
 use Rattle.dav_core.specs.Unchanged.{Keeps}
 use Rattle.dav_core.specs.World.{World}
 use Rattle.dav_core.proofs.UnchangedLemmas.{put_same}
+use Rattle.dav_core.proofs.Rows.{path_in, tree_parts}
 use Rattle.dav_store.specs.Files.{Spoiled}
 use Rattle.dav_store.specs.Listings.{EndsList, IsListed}
 use Rattle.dav_store.proofs.Reading.{rose_from, rose_on}
@@ -30,7 +32,7 @@ use Rattle.dav_store.proofs.Walking.{walk_leaves}
 use Rattle.dav_model.specs.Finding.{IsOf, is_alike}
 use Rattle.dav_model.specs.Folds.{Name, fold_name}
 use Rattle.dav_local.specs.Walking.{IsAmong, IsClearAt, Searches, SearchesIn, Sought, SoughtIn, Steps, StepsTo}
-use Rattle.dav_local.proofs.Rows.{alike_is, alike_splits, is_directory, link_at, looked_row, name_in, none_of, path_in, row_is, tree_parts}
+use Rattle.dav_local.proofs.Rows.{alike_is, alike_splits, is_directory, link_at, looked_row, name_in, none_of, row_is}
 
 -- ---- names of a listing and of its directory
 
@@ -70,14 +72,10 @@ among_row at (r ∷ rows) row x (inl same) path =
     subst (λ b. IsAmong x (map name_of (cond b (r ∷ filter (stands_in at) rows) (filter (stands_in at) rows)))) (sym stands) (inl (sym name))
 among_row at (r ∷ rows) row x (inr o) path = among_kept at r (filter (stands_in at) rows) x (stands_in at r) (among_row at rows row x o path)
 
-or_false : (a b : Bool) → (a || b) ≡ false → (a ≡ false) × (b ≡ false)
-or_false true b e = cc
-or_false false b e = (refl, e)
-
 other_foldings : (folded : Name) (names : Names) → list_any (λ x. bytes_eq (fold_name x) folded) names ≡ false → AllByRecursion (λ x. bytes_eq (fold_name x) folded ≡ false) names
 other_foldings folded [] e = tt
 other_foldings folded (x ∷ names) e =
-    let (first, later) = or_false (bytes_eq (fold_name x) folded) (list_any (λ y. bytes_eq (fold_name y) folded) names) e in
+    let (first, later) = or_parts (bytes_eq (fold_name x) folded) (list_any (λ y. bytes_eq (fold_name y) folded) names) e in
     (first, other_foldings folded names later)
 
 same_bytes : (a b : Name) → a ≡ b → bytes_eq a b ≡ true

@@ -2,9 +2,9 @@
 use Rattle.std.proofs.Common.{◌≡◌, ◌≢◌, ◌<◌, ◌≤◌, ◌⊎◌, ℕ, List, [], ◌++◌, length, take, drop, Bool, true, false, Option, Result, Ok, Err, OnErr, refl, sym, ap, subst, ◌∙◌, inl, inr, arith}
 use Rattle.std.proofs.lemmas.List.{take-append-drop, take-append-le, length-take-le}
 use Rattle.bytes.specs.Unread.{IsChunkOf}
-use Rattle.dav_io.specs.Counts.{Rose}
 use Rattle.dav_io.specs.Told.{Both}
 use Rattle.dav_io.proofs.ToldLemmas.{both_map, both_same, both_then}
+use Rattle.dav_io.proofs.Rising.{rose_before}
 use Rattle.dav_core.specs.declared.error.FsError.{FsError}
 use Rattle.dav_core.specs.declared.handle.DiskError.{DiskError}
 use Rattle.dav_core.specs.declared.handle.DiskError.TheVariants.{NotFound, Exists, NotDir, IsDir, NotEmpty, Failed, NoMemory}
@@ -120,10 +120,6 @@ all_live h s from result t (more a m b xs piece n r chunk writes rest) =
 
 -- ---- what it is refused for
 
-rose_later : (a b c : ℕ) → a ≤ b → Rose b c → Rose a c
-rose_later a b c lt (inl rose) = inl (omega arith)
-rose_later a b c lt (inr full) = inr full
-
 spoiled_by : (h : ℕ) (piece : List ℕ) (answer : Result ℕ DiskError) (e : DiskError) (s t : DiskState) → answer ≡ Err e → Writes s h piece answer t
     → (answer ≡ Err Failed) ⊎ (answer ≡ Err NoMemory) → Spoiled {T = Unit {0}} s (Err (fs_error_of e)) t
 spoiled_by h piece answer e s t is writes (inl failed) = let same : e ≡ Failed = cc in inl (ap (λ d. Err (fs_error_of d)) same, writes.asks.rose failed)
@@ -131,7 +127,7 @@ spoiled_by h piece answer e s t is writes (inr wanted) = let same : e ≡ NoMemo
 
 spoiled_later : (s m t : DiskState) (result : Result Unit FsError) → s.faults ≤ m.faults → OnErr result (Spoiled m result t) → OnErr result (Spoiled s result t)
 spoiled_later s m t (Ok x) lt spoiled = tt
-spoiled_later s m t (Err e) lt (inl (is, rose)) = inl (is, rose_later s.faults m.faults t.faults lt rose)
+spoiled_later s m t (Err e) lt (inl (is, rose)) = inl (is, rose_before s.faults m.faults t.faults lt rose)
 spoiled_later s m t (Err e) lt (inr is) = inr is
 
 all_refused : (h : ℕ) (s : DiskState) (from : List ℕ) (result : Result Unit FsError) (t : DiskState) → WritesAll h s from result t → can_write (s.live h) ≡ true
@@ -145,7 +141,7 @@ all_refused h s from result t (more a m b xs piece n r chunk writes rest) can =
 -- ---- what it shows
 
 -- a front of a piece is a front of the bytes that it is a front of
-front_of : (n : ℕ) (piece from : List ℕ) → IsChunkOf piece from → n ≤ length piece → take n piece ≡ take n from
+pub front_of : (n : ℕ) (piece from : List ℕ) → IsChunkOf piece from → n ≤ length piece → take n piece ≡ take n from
 front_of n piece from chunk within =
     let rest = drop (length piece) from in
     sym (take-append-le n piece rest within)

@@ -24,7 +24,7 @@ use Rattle.dav_local.proofs.WrittenBytes.{written_end, written_on}
 abbrev number_open : Option OpenFile → Option ℕ
 number_open o = option_map (λ x. x.number) o
 
-held_open : (w : World) (h number : ℕ) (o : OpenFile) → w.opens h ≡ Some o → o.number ≡ number → Holds w number
+pub held_open : (w : World) (h number : ℕ) (o : OpenFile) → w.opens h ≡ Some o → o.number ≡ number → Holds w number
 held_open w h number o at same = inr (h, ap number_open at ∙ ap Some same)
 
 -- a file that is held has the bytes that it was filled with
@@ -141,10 +141,10 @@ then_writes l a b (Err e) f g k some first (inr (n, lt, within, second)) =
 abbrev pub PartWritten : Option Live → List ℕ → Seen → Seen → Type 0
 PartWritten l from f g = (g ≡ f) ⊎ ((n : ℕ) × (0 < n) × (n ≤ length from) × IsWritten (write_place l f) (take n from) f g)
 
-abbrev MayWrite : Option Live → ℕ → List ℕ → World → World → Type 0
+abbrev pub MayWrite : Option Live → ℕ → List ℕ → World → World → Type 0
 MayWrite l h from v w = (SameBesidesOpens v w × SameOpens v w) ⊎ ((can_write l ≡ true) × (n : ℕ) × WroteIn (appends l) h from n v w)
 
-refused_leaves : (l : Option Live) (h : ℕ) (from : List ℕ) (e : DiskError) (v w : World) → WrittenIn l h from (Err e) v w → MayWrite l h from v w
+pub refused_leaves : (l : Option Live) (h : ℕ) (from : List ℕ) (e : DiskError) (v w : World) → WrittenIn l h from (Err e) v w → MayWrite l h from v w
 refused_leaves l h from IsDir v w (can, same, opens) = inl (same, opens)
 refused_leaves l h from NotFound v w left = left
 refused_leaves l h from Exists v w left = left

@@ -1,5 +1,5 @@
 -- What calls that change what stands make of the told world, of any store that hands them on to its disk.
-use Rattle.std.proofs.Common.{◌≡◌, ◌≤◌, inl, inr, ℕ, Bool, true, false, List, Option, None, Some, Result, Ok, Err, refl, sym, ap, subst, ◌∙◌}
+use Rattle.std.proofs.Common.{◌≡◌, ◌≤◌, inl, inr, ℕ, Bool, false, List, Option, Some, Result, Ok, Err, refl, sym, ap, subst, ◌∙◌}
 use Rattle.dav_core.specs.declared.error.FsError.{FsError}
 use Rattle.dav_core.specs.declared.handle.DiskError.{DiskError}
 use Rattle.dav_core.specs.declared.handle.Handle.{Handle}
@@ -14,6 +14,7 @@ use Rattle.dav_core.specs.Tree.{is_linked, row_at}
 use Rattle.dav_core.specs.World.{OpenFile, SameBesidesOpens, World}
 use Rattle.dav_core.specs.Writing.{DoesIn, LeftBy}
 use Rattle.dav_core.proofs.UnchangedLemmas.{put_same, same_besides_then}
+use Rattle.dav_core.proofs.LeftLemmas.{left_more, left_refused}
 use Rattle.dav_store.specs.Files.{Spoiled}
 use Rattle.dav_store.specs.View.{Listings, View}
 use Rattle.dav_store.proofs.Reading.{rose_from}
@@ -25,17 +26,6 @@ use Rattle.dav_walks.specs.Pouring.{Writes}
 use Rattle.dav_local.specs.Files.{done_by}
 use Rattle.dav_local_laws.proofs.CallsBefore.{edited_before, opening_numbered}
 use Rattle.dav_local_laws.proofs.PlainLooks.{called_for}
-
--- what a call left that the tree calls to refuse
-pub left_called : (may : Bool) (d : DiskError) (v w : World) → LeftBy may (Err d) v w → SameBesidesOpens v w
-left_called true d v w left = left
-left_called false d v w left = left
-
-left_more : (may : Bool) (allowed : Allowed) (v w : World) → LeftBy may allowed v w → LeftBy true allowed v w
-left_more true allowed v w left = left
-left_more false (Ok (Some e)) v w left = inl left
-left_more false (Ok None) v w left = left
-left_more false (Err d) v w left = left
 
 pub calls_for : (allowed : Allowed) (d : DiskError) → allowed ≡ Err d → CallsFor allowed (fs_error_of d)
 calls_for allowed d e = rw e refl
@@ -52,7 +42,7 @@ module _ {S C F L E : Type 0} (view : View S C F) (lists : Listings S C L E) (wr
   calls_from may allowed (Ok x) m n k v w done le counted = done
   calls_from may allowed (Err d) m n k v w (refused, left) le counted =
       elim (called_for Unit (Option Edit) Unit d allowed k (view.state n) refused counted) [
-        | inl called ↦ inl (calls_for allowed d called, left_called may d v w (subst (λ a. LeftBy may a v w) called left))
+        | inl called ↦ inl (calls_for allowed d called, left_refused may d v w (subst (λ a. LeftBy may a v w) called left))
         | inr spoiled ↦ inr (spoiled_from (view.state m) k (view.state n) (fs_error_of d) le spoiled, left_more may allowed v w left)
       ]
 

@@ -6,14 +6,12 @@ use Rattle.std.proofs.lemmas.Slice.Eq.{bytes_eq-Decides}
 use Rattle.dav_core.specs.declared.tree.Row.{Row}
 use Rattle.dav_core.specs.Listing.{name_of, stands_in}
 use Rattle.dav_core.specs.Path.{Names}
+use Rattle.dav_core.proofs.Rows.{path_in}
 use Rattle.dav_model.specs.Folds.{Name, has_name, member_name}
 use Rattle.dav_model.proofs.Denied.{member_pushed}
-use Rattle.dav_local.proofs.Rows.{name_in, path_in}
+use Rattle.dav_local.proofs.Rows.{name_in}
 
 -- a member's path is that of its directory with its name
-bytes_same : (a b : Name) → bytes_eq a b ≡ true → a ≡ b
-bytes_same a b e = (bytes_eq-Decides a b).0 e
-
 member_path : (dir path : Names) (n : Name) → member_name dir path ≡ Some n → path ≡ dir ++ n ∷ []
 member_path [] [] n e = cc
 member_path [] (m ∷ []) n e = (let same : m ≡ n = cc in ap (λ x. x ∷ []) same)
@@ -22,7 +20,7 @@ member_path (d ∷ dir) [] n e = cc
 member_path (d ∷ dir) (m ∷ path) n e = by (λ rest. member_path dir path n rest) (bytes_eq d m) refl e
   where
     by : (member_name dir path ≡ Some n → path ≡ dir ++ n ∷ []) → (b : Bool) → bytes_eq d m ≡ b → cond b (member_name dir path) None ≡ Some n → m ∷ path ≡ d ∷ (dir ++ n ∷ [])
-    by further true same e = ap (λ x. x ∷ path) (sym (bytes_same d m same)) ∙ ap (λ p. d ∷ p) (further e)
+    by further true same e = ap (λ x. x ∷ path) (sym ((bytes_eq-Decides d m).0 same)) ∙ ap (λ p. d ∷ p) (further e)
     by further false same e = cc
 
 -- a row that stands in a directory is its member, and no other is

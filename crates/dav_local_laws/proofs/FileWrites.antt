@@ -1,29 +1,26 @@
 -- What writes of a local store's file make of the told world: one filling.
-use Rattle.std.proofs.Common.{◌≡◌, ◌≤◌, ◌+◌, ◌⊎◌, inl, inr, ℕ, true, false, List, [], ◌++◌, length, take, drop, Option, Some, Result, Ok, Err, refl, sym, ap, subst, ◌∙◌, arith, length-drop}
+use Rattle.std.proofs.Common.{◌≡◌, ◌≤◌, ◌+◌, inl, inr, ℕ, false, List, [], ◌++◌, length, take, drop, Option, Some, Result, Ok, Err, refl, sym, ap, subst, ◌∙◌, arith, length-drop}
 use Rattle.std.proofs.Math.Seq.{take-append-add}
-use Rattle.std.proofs.lemmas.List.{length-take-le, take-append-drop, take-append-le}
+use Rattle.std.proofs.lemmas.List.{length-take-le, take-append-drop}
 use Rattle.std.specs.Option.{option_map}
 use Rattle.bytes.specs.Unread.{IsChunkOf}
 use Rattle.dav_io.specs.Told.{Both}
 use Rattle.dav_io.proofs.ToldLemmas.{both_map, both_same, both_then}
 use Rattle.dav_core.specs.declared.error.FsError.{FsError}
-use Rattle.dav_core.specs.declared.handle.DiskError.{DiskError}
-use Rattle.dav_core.specs.declared.handle.DiskError.TheVariants.{NotFound, Exists, NotDir, IsDir, NotEmpty, Failed, NoMemory}
 use Rattle.dav_core.specs.Disk.{DiskState, Live}
-use Rattle.dav_core.specs.Edits.{Edited, SameOpens, fills}
+use Rattle.dav_core.specs.Edits.{Edited, fills}
 use Rattle.dav_core.specs.Errors.{fs_error_of}
-use Rattle.dav_core.specs.World.{Holds, OpenFile, SameBesidesOpens, World, bytes_of}
-use Rattle.dav_core.specs.Writing.{WrittenIn, WroteIn, appends, can_write, written}
+use Rattle.dav_core.specs.World.{Holds, OpenFile, World, bytes_of}
+use Rattle.dav_core.specs.Writing.{WrittenIn, WroteIn, appends, written}
 use Rattle.dav_core.proofs.UnchangedLemmas.{put_same, same_besides}
 use Rattle.dav_local.specs.Writing.{WritesAll}
 use Rattle.dav_local.specs.Writing.WritesAll.{more, nothing, refused}
+use Rattle.dav_local.proofs.WrittenFiles.{MayWrite, held_open, refused_leaves}
+use Rattle.dav_local.proofs.Written.{front_of}
 use Rattle.dav_local_laws.proofs.Refilled.{nothing_written, written_behind, written_within}
 
 abbrev number_open : Option OpenFile → Option ℕ
 number_open o = option_map (λ x. x.number) o
-
-held_open : (w : World) (h number : ℕ) (o : OpenFile) → w.opens h ≡ Some o → o.number ≡ number → Holds w number
-held_open w h number o at same = inr (h, ap number_open at ∙ ap Some same)
 
 -- These bytes were written from the file's place on, or a front of them.
 abbrev WrittenBy : ℕ → List ℕ → Result Unit FsError → OpenFile → World → World → Type 0
@@ -33,14 +30,6 @@ WrittenBy h from (Err e) o v w = (n : ℕ) × Edited (fills o.number (written o.
 
 abbrev pub WrittenFrom : ℕ → List ℕ → Result Unit FsError → World → World → Type 0
 WrittenFrom h from r v w = (o : OpenFile) → v.opens h ≡ Some o → o.place ≤ length (bytes_of v o.number) → WrittenBy h from r o v w
-
--- a front of a piece is a front of the bytes that it is a front of
-front_of : (n : ℕ) (piece from : List ℕ) → IsChunkOf piece from → n ≤ length piece → take n piece ≡ take n from
-front_of n piece from chunk within =
-    let rest = drop (length piece) from in
-    sym (take-append-le n piece rest within)
-    ∙ ap (λ x. take n (x ++ rest)) (sym chunk.front)
-    ∙ ap (take n) (take-append-drop (length piece) from)
 
 -- ---- no bytes, and a refusal
 
@@ -60,18 +49,6 @@ wrote_file h piece n o v w at (p, there, some, within, edited, opens, listings) 
       subst (λ (x : OpenFile). Edited (fills x.number (written x.place (take n piece) (bytes_of v x.number))) v w) same edited,
       ap (λ (f : ℕ → Option OpenFile). f h) opens ∙ put_same h (Some (record p { place = p.place + n })) v.opens ∙ ap (λ (x : OpenFile). Some (record x { place = x.place + n })) same,
     )
-
-abbrev MayWrite : Option Live → ℕ → List ℕ → World → World → Type 0
-MayWrite l h from v w = (SameBesidesOpens v w × SameOpens v w) ⊎ ((can_write l ≡ true) × (n : ℕ) × WroteIn (appends l) h from n v w)
-
-refused_leaves : (l : Option Live) (h : ℕ) (from : List ℕ) (e : DiskError) (v w : World) → WrittenIn l h from (Err e) v w → MayWrite l h from v w
-refused_leaves l h from IsDir v w (can, same, opens) = inl (same, opens)
-refused_leaves l h from NotFound v w left = left
-refused_leaves l h from Exists v w left = left
-refused_leaves l h from NotDir v w left = left
-refused_leaves l h from NotEmpty v w left = left
-refused_leaves l h from Failed v w left = left
-refused_leaves l h from NoMemory v w left = left
 
 part_written : (l : Option Live) (h : ℕ) (piece from : List ℕ) (e : FsError) (v w : World) → appends l ≡ false → IsChunkOf piece from → MayWrite l h piece v w → WrittenFrom h from (Err e) v w
 part_written l h piece from e v w end chunk (inl (same, opens)) o at le = (0, inl (nothing_written o.place (bytes_of v o.number) le, same))

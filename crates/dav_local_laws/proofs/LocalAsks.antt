@@ -1,6 +1,6 @@
 -- How often a local store asks its disk for a GET or HEAD: of a path that is found without the disk, and that the rules
 -- for macOS don't touch, of one that the memory has or that stands as it is asked, and at most of any other.
-use Rattle.std.proofs.Common.{◌≡◌, ◌≤◌, ◌+◌, ◌*◌, ◌⊎◌, ◌&&◌, ◌||◌, inl, inr, ℕ, length, Bool, true, false, Option, None, Some, option_map, Result, Ok, Err, refl, sym, ap, subst, ◌∙◌, arith}
+use Rattle.std.proofs.Common.{◌≡◌, ◌≤◌, ◌+◌, ◌*◌, ◌⊎◌, inl, inr, ℕ, length, Bool, true, false, Option, None, Some, option_map, Result, Ok, Err, refl, sym, ap, subst, ◌∙◌, arith}
 use Rattle.std.specs.List.{count_by}
 use Rattle.std.specs.Map.{lookup}
 use Rattle.dav_io.specs.Counts.{RefusedNothing, one_more}
@@ -47,16 +47,8 @@ use Rattle.dav_local.specs.Ways.{is_judged, is_known, rules_of}
 use Rattle.dav_local.proofs.NearSeen.{begun_few}
 use Rattle.dav_local.proofs.Counted.{few_called, few_more, unasked}
 use Rattle.dav_local.proofs.FromRoot.{known_costs, unknown_costs}
+use Rattle.dav_local.proofs.Seen.{not_judged}
 use Rattle.dav_local_laws.specs.LocalStore.{IsLocalStore, place}
-
-pub or_parts : (a b : Bool) → (a || b) ≡ false → (a ≡ false) × (b ≡ false)
-or_parts true b e = cc
-or_parts false b e = (refl, e)
-
-not_judged : (a b c : Bool) → (a && (b || c)) ≡ false → ((a && b) ≡ false) × ((a && c) ≡ false)
-not_judged true true c e = cc
-not_judged true false c e = (refl, e)
-not_judged false b c e = (refl, refl)
 
 same_asked : (p q : Place) → q ≡ p → q.disk.asked ≡ p.disk.asked
 same_asked p q same = ap (λ (x : Place). x.disk.asked) same

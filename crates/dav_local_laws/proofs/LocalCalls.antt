@@ -31,9 +31,10 @@ use Rattle.dav_local.specs.Calls.{Asks, Finds, Place, Unless}
 use Rattle.dav_local.specs.Files.{done_by, filed}
 use Rattle.dav_local.specs.Resolving.{Leads, Resolves}
 use Rattle.dav_local.specs.Ways.{rules_of, rules_with}
+use Rattle.dav_local.proofs.ByRules.{spoiled_by}
 use Rattle.dav_local_laws.proofs.CallsBefore.{AllowsNumbered, calls_before, copying_numbered, copying_same, left_same, making_numbered, taking_dir_numbered, taking_file_numbered}
 use Rattle.dav_local_laws.proofs.CallsDone.{calls_from, opened_as}
-use Rattle.dav_local_laws.proofs.LocalLooks.{besides_then, found_there, spoiled_as}
+use Rattle.dav_local_laws.proofs.LocalLooks.{besides_then, found_there}
 use Rattle.dav_local_laws.specs.LocalStore.{IsLocalStore, place}
 
 module _ {S C : Type 0} (view : View S C LocalFsFile) (lists : Listings S C LocalFsReadDir LocalFsDirEntry) (writes : Writes LocalFsFile) (c : C) (ways : S → Ways) (memory : S → MemoryState) (moment : S → Moment)
@@ -68,7 +69,7 @@ module _ {S C : Type 0} (view : View S C LocalFsFile) (lists : Listings S C Loca
       → SameBesidesOpens v w → Calls view lists writes c allowed m r n v w
   calls_spoiled m n allowed e r k q v w le spoiled is ends same =
       subst (λ z. Calls view lists writes c allowed m z n v w) (sym is)
-      (inr (subst (λ d. Spoiled {T = Unit} (view.state m) (Err e) d) (sym ends) (spoiled_as {U = Unit} (view.state m) k q e (Err e) le refl spoiled), left_same allowed v w same))
+      (inr (subst (λ d. Spoiled {T = Unit} (view.state m) (Err e) d) (sym ends) (spoiled_by {U = Unit} (view.state m) k q e (Err e) le refl spoiled), left_same allowed v w same))
 
   -- ---- one path
 
@@ -192,7 +193,7 @@ module _ {S C : Type 0} (view : View S C LocalFsFile) (lists : Listings S C Loca
       → OpensBy view lists writes c (rules m) path m r n v w
   opens_lost m n path e r q v w spoiled is ends same =
       subst (λ z. OpensBy view lists writes c (rules m) path m z n v w) (sym is)
-      (same, inr (subst (λ d. Spoiled {T = LocalFsFile} (view.state m) (Err e) d) (sym ends) (spoiled_as {U = LocalFsFile} (view.state m) (view.state m) q e (Err e) (omega arith) refl spoiled)))
+      (same, inr (subst (λ d. Spoiled {T = LocalFsFile} (view.state m) (Err e) d) (sym ends) (spoiled_by {U = LocalFsFile} (view.state m) (view.state m) q e (Err e) (omega arith) refl spoiled)))
 
   opened_at : (m n : S) (path : WebPath) (r : Result LocalFsFile FsError) → Finds (at m) path.names (λ there. Asks (λ s answer t. Opens s there put_options answer t) filed) r (at n)
       → Told view lists writes c m n (OpensAt m path r n)

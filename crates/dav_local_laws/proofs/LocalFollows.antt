@@ -50,7 +50,7 @@ use Rattle.dav_local.specs.Shown.{EndsBy, ListsByRules, WhyRefused, knowledge_of
 use Rattle.dav_local.specs.Ways.{rules_with}
 use Rattle.dav_local.specs.Standing.{HasNoLinks}
 use Rattle.dav_local.specs.declared.ways.Ways.{Ways}
-use Rattle.dav_local.proofs.ByRules.{lists_by_rules}
+use Rattle.dav_local.proofs.ByRules.{lists_by_rules, spoiled_by}
 use Rattle.dav_local.proofs.Filling.{given_keeps}
 use Rattle.dav_local.proofs.EntriesTold.{listed_dir, rows_stand}
 use Rattle.dav_local.proofs.Walked.{ListsLocal, walk_ends, walk_fails, walk_told}
@@ -59,7 +59,7 @@ use Rattle.dav_local_laws.proofs.ListingWorlds.{listed_besides, next_besides, sa
 use Rattle.dav_local_laws.proofs.NamedMembers.{are_members, in_name_order, member, paths_of, rows_members}
 use Rattle.dav_local_laws.proofs.NameOrder.{ascending_once, order_ascends, order_permutes, sorted_ascends}
 use Rattle.dav_local_laws.proofs.LocalCalls.{copy_told, make_told, open_told, take_dir_told, take_file_told}
-use Rattle.dav_local_laws.proofs.LocalLooks.{Besides, besides_same, besides_then, look_at_link_told, look_told, spoiled_as}
+use Rattle.dav_local_laws.proofs.LocalLooks.{Besides, besides_same, besides_then, look_at_link_told, look_told}
 use Rattle.dav_local_laws.proofs.PlainLooks.{both_with}
 use Rattle.dav_local_laws.proofs.ReachedCounts.{reached_counts}
 use Rattle.dav_local_laws.proofs.TreeLooks.{dir_listed}
@@ -302,7 +302,7 @@ module _ {S C : Type 0} (view : View S C LocalFsFile) (lists : Listings S C Loca
       by : (end : Names) (row : Row) → listable (look v.tree end) ≡ Ok row → BeginsThere {L = LocalFsReadDir} (listed_in v end) (Err e) ⊎ Spoiled {T = LocalFsReadDir} (view.state m) (Err e) (view.state n)
           → Spoiled {T = Unit {0}} (view.state m) (Err e) (view.state n)
       by end row is (inl there) = absurd (never end (listable (look v.tree end)) row is there)
-      by end row is (inr spoiled) = spoiled_as {U = Unit {0}} (view.state m) (view.state m) (view.state n) e (Err e) (omega arith) refl spoiled
+      by end row is (inr spoiled) = spoiled_by {U = Unit {0}} (view.state m) (view.state m) (view.state n) e (Err e) (omega arith) refl spoiled
 
   read_refused : (m b n : S) (path : WebPath) (l k : LocalFsReadDir) (e : FsError) (v : World) → TellsApart (rules m) v → (view.state m).told ≡ Some v → is_clear v.tree (dir_at m v path) ≡ true
       → lists.lists m c path DataSymlink (Ok l) b → ReadRefused view lists b l e n k → Spoiled {T = Unit {0}} (view.state m) (Err e) (view.state n)

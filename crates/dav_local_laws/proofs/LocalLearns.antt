@@ -4,6 +4,7 @@ use Rattle.std.specs.List.{list_any}
 use Rattle.std.specs.List.Sorted.{IsPermutation}
 use Rattle.std.proofs.lemmas.List.Sorted.{list_any-IsPermutation}
 use Rattle.std.proofs.lemmas.Slice.Eq.{bytes_eq-Decides}
+use Rattle.std.proofs.lemmas.Bool.{or_right}
 use Rattle.dav_io.specs.declared.clock.Moment.{Moment}
 use Rattle.dav_io.specs.declared.failure.NoMemory.{NoMemory as Starved}
 use Rattle.dav_io.proofs.ToldLemmas.{told_after}
@@ -26,6 +27,7 @@ use Rattle.dav_store.specs.View.{Listings, View}
 use Rattle.dav_walks.specs.Pouring.{Writes}
 use Rattle.dav_model.specs.Folds.{Name, dir_time, dir_time_of, has_name, is_dot}
 use Rattle.dav_model.specs.Rules.{Knowledge, Learns, SameDots, ShowsNames, WasKnown}
+use Rattle.dav_model.proofs.JoiningLemmas.{same_dots_then}
 use Rattle.dav_cache.specs.Builder.{BuilderState, Finishes, Settles, may_settle, time_found, with_name}
 use Rattle.dav_cache.specs.Core.{is_time, one_time}
 use Rattle.dav_cache.specs.declared.du_cache.Sealed.{Sealed}
@@ -52,9 +54,6 @@ use Rattle.dav_local_laws.proofs.LocalListings.{lists_local, next_local}
 
 -- ---- what is learned
 
-dots_then : (a b c : Name → Bool) → SameDots a b → SameDots b c → SameDots a c
-dots_then a b c p q x dot = p x dot ∙ q x dot
-
 pub learns_told_then : (told : Option World) (k l m : Knowledge) → Learns told k l → Learns told l m → Learns told k m
 learns_told_then told k l m first more = record {
   open_same = λ dir time. more.open_same dir time ∙ first.open_same dir time;
@@ -63,10 +62,10 @@ learns_told_then told k l m first more = record {
   where
     before : (dir : Names) (time : FileTime) (has had : Name → Bool) → SameDots has had → WasKnown k dir time had ⊎ ((w : World) → told ≡ Some w → ShowsNames w dir time had)
         → WasKnown k dir time has ⊎ ((w : World) → told ≡ Some w → ShowsNames w dir time has)
-    before dir time has had same (inl (old, is, alike)) = inl (old, is, dots_then has had old same alike)
+    before dir time has had same (inl (old, is, alike)) = inl (old, is, same_dots_then has had old same alike)
     before dir time has had same (inr shows) = inr (λ w now clear.
         let shown = shows w now clear in
-        record { there = shown.there; names = dots_then has had (has_name w.tree dir) same shown.names })
+        record { there = shown.there; names = same_dots_then has had (has_name w.tree dir) same shown.names })
 
     by : (dir : Names) (time : FileTime) (has : Name → Bool) → WasKnown l dir time has ⊎ ((w : World) → told ≡ Some w → ShowsNames w dir time has)
         → WasKnown k dir time has ⊎ ((w : World) → told ≡ Some w → ShowsNames w dir time has)
@@ -159,10 +158,6 @@ with_idle name b = by (is_dot name)
     by : (d : Bool) → is_idle (if d then record b { names = kept name b.names } else b) ≡ is_idle b
     by true = refl
     by false = refl
-
-faulted_idle : (f : Bool) → (f || true) ≡ true
-faulted_idle true = refl
-faulted_idle false = refl
 
 entry_given : (b : Begun) (given : Names) (s t : DiskState) (k f : ListingState) (entry : LocalFsDirEntry) → Front b given s k → NextEntry s k (Ok (Some entry)) t f → GivenOne b given t entry f
 entry_given b given s t k f entry front (x, refills, gives) =
@@ -305,7 +300,7 @@ module _ {S C : Type 0} (view : View S C LocalFsFile) (lists : Listings S C Loca
     paths = ap (λ (p : Place). p.ways) same;
     learns = same_learned told (memory m) (memory n) (ap (λ (p : Place). p.memory) same);
     stands = subst (λ (d : LocalFsReadDir). StandsFor told dir (view.state n) d.reading d.builder) (sym whole)
-        (idle_stands told dir (view.state m) (view.state n) l.reading _ b (record b { faulted = true }) refl refl (faulted_idle b.finished) st);
+        (idle_stands told dir (view.state m) (view.state n) l.reading _ b (record b { faulted = true }) refl refl (or_right b.finished true refl) st);
   }
   after_led told dir m n l k (Some b) (Ok None) r now t f none st first (sealed, c, finishes, stays, is, whole) =
       let ended = finish_learns told dir (view.state m) t l.reading f b c b.finished now (record (at m) { disk = t }) (at n) sealed (view.state n) refl st first finishes in
@@ -318,7 +313,7 @@ module _ {S C : Type 0} (view : View S C LocalFsFile) (lists : Listings S C Loca
     paths = ap (λ (p : Place). p.ways) same;
     learns = same_learned told (memory m) (memory n) (ap (λ (p : Place). p.memory) same);
     stands = subst (λ (d : LocalFsReadDir). StandsFor told dir (view.state n) d.reading d.builder) (sym whole)
-        (idle_stands told dir (view.state m) (view.state n) l.reading f b (record b { faulted = true }) refl refl (faulted_idle b.finished) st);
+        (idle_stands told dir (view.state m) (view.state n) l.reading f b (record b { faulted = true }) refl refl (or_right b.finished true refl) st);
   }
 
   next_led : (told : Option World) (dir : Names) (from m n : S) (l k : LocalFsReadDir) (r : Result (Option LocalFsDirEntry) FsError) → Led told dir from m l → lists.lists_on m l r n k → Led told dir from n k

@@ -19,7 +19,6 @@ use Rattle.dav_core.proofs.UnchangedLemmas.{same_besides, same_besides_then}
 use Rattle.dav_store.specs.Files.{Spoiled}
 use Rattle.dav_store.specs.Void.{empty_info}
 use Rattle.dav_store.specs.View.{Listings, View}
-use Rattle.dav_store.proofs.Reading.{rose_from}
 use Rattle.dav_model.specs.declared.settings.Settings.{Settings}
 use Rattle.dav_model.specs.Finding.{Denies, EndsLoosely, empty_file, has_slash, is_localized, is_virtual, resolved, stood_at}
 use Rattle.dav_model.specs.Head.{Stood}
@@ -42,9 +41,10 @@ use Rattle.dav_local.specs.Resolving.{Leads, Resolves}
 use Rattle.dav_local.specs.Shown.{finding_of, knowledge_of}
 use Rattle.dav_local.specs.Ways.{rules_with}
 use Rattle.dav_local.proofs.Allowed.{may_find}
-use Rattle.dav_local.proofs.ByRules.{absent_why, denies_before, present, tells_keeps}
+use Rattle.dav_local.proofs.ByRules.{absent_why, denies_before, present, spoiled_by, spoiled_later, tells_keeps}
 use Rattle.dav_local.proofs.Memories.{learns_then}
-use Rattle.dav_local_laws.proofs.PlainLooks.{both_with, clear_way, finds_in}
+use Rattle.dav_local.proofs.EntriesTold.{clear_way}
+use Rattle.dav_local_laws.proofs.PlainLooks.{both_with, finds_in}
 use Rattle.dav_local_laws.specs.LocalStore.{IsLocalStore, place}
 
 -- ---- what looks leave of the told world
@@ -69,15 +69,6 @@ pub found_there : (settings : Settings) (ways : Ways) (v : World) (names at : Na
 found_there settings ways v names at apart free leads =
     let exact : leads.end ≡ resolved (rules_with settings ways) v.tree names = found_exactly (rules_with settings ways) v.tree names leads.end apart leads.loosely in
     leads.here (linked_same v.tree leads.end (resolved (rules_with settings ways) v.tree names) exact free) ∙ exact
-
--- what was spoiled stays so, from before and in whatever is answered with it
-pub spoiled_as : {T U : Type 0} (s m t : DiskState) (e : FsError) (r : Result U FsError) → s.faults ≤ m.faults → r ≡ Err e → Spoiled {T = T} m (Err e) t → Spoiled s r t
-spoiled_as s m t e r le is (inl (general, rose)) = inl (is ∙ (let f : e ≡ fs.GeneralFailure = cc in ap (λ x. Err x) f), rose_from s.faults m.faults t.faults le rose)
-spoiled_as s m t e r le is (inr none) = inr (is ∙ (let f : e ≡ fs.NoMemory = cc in ap (λ x. Err x) f))
-
-spoiled_later : {T : Type 0} (s m t : DiskState) (r : Result T FsError) → s.faults ≤ m.faults → Spoiled m r t → Spoiled s r t
-spoiled_later s m t r le (inl (is, rose)) = inl (is, rose_from s.faults m.faults t.faults le rose)
-spoiled_later s m t r le (inr none) = inr none
 
 -- ---- what stands where it was found
 
@@ -206,7 +197,7 @@ module _ {S C : Type 0} (view : View S C LocalFsFile) (lists : Listings S C Loca
           → AfterFound found q (LooksAt follows slash) r (at n) → Finds_or_spoiled v
       found_finds (Err e) q told learns resolves (is, ends) =
           inr (subst (λ (d : DiskState). Spoiled (view.state m) r d) (sym (ap (λ (x : Place). x.disk) ends))
-          (spoiled_as (view.state m) (view.state m) q.disk e r (omega arith) is resolves.refused))
+          (spoiled_by (view.state m) (view.state m) q.disk e r (omega arith) is resolves.refused))
       found_finds (Ok there) q told learns resolves (absent, k, tells, after) = after_finds absent there q k told learns resolves tells after
 
   looks_by : (follows : Bool) (m n : S) (path : WebPath) (r : Result Info FsError) (knew : MemoryState) → LearnsNothing knew (memory m) → Looks follows (at m) path r (at n)

@@ -32,11 +32,11 @@ use Rattle.dav_local.specs.Calls.{AfterMove, Asks, Finds, MovesAt, Place}
 use Rattle.dav_local.specs.Files.{done_by, filed}
 use Rattle.dav_local.specs.Resolving.{Leads}
 use Rattle.dav_local.specs.Ways.{rules_of, rules_with}
+use Rattle.dav_local.proofs.ByRules.{spoiled_by}
 use Rattle.dav_local_laws.proofs.CallsBefore.{AllowsNumbered, calls_before, copying_numbered, copying_same, making_numbered, taking_dir_numbered, taking_file_numbered}
 use Rattle.dav_local_laws.proofs.CallsDone.{calls_from, opened_as}
 use Rattle.dav_local_laws.proofs.LocalCalls.{LedToBoth, calls_spoiled, found_both, led_to, unless_told}
 use Rattle.dav_local_laws.proofs.LocalLeads.{calls_remain}
-use Rattle.dav_local_laws.proofs.LocalLooks.{spoiled_as}
 use Rattle.dav_local_laws.proofs.LocalMoves.{moved_by, moves_before, moves_spoiled}
 use Rattle.dav_local_laws.specs.LocalStore.{IsLocalStore, place}
 use Rattle.dav_local_laws.specs.Loosely.{AtSome, FollowsLoosely, finding_at}
@@ -184,7 +184,7 @@ module _ {S C : Type 0} (view : View S C LocalFsFile) (lists : Listings S C Loca
       → SameBesidesOpens v w → OpensBy view lists writes c (finding_at there (rules m)) path m r n v w
   opens_lost m n path there e r q v w spoiled is ends same =
       subst (λ z. OpensBy view lists writes c (finding_at there (rules m)) path m z n v w) (sym is)
-      (same, inr (subst (λ d. Spoiled {T = LocalFsFile} (view.state m) (Err e) d) (sym ends) (spoiled_as {U = LocalFsFile} (view.state m) (view.state m) q e (Err e) (omega arith) refl spoiled)))
+      (same, inr (subst (λ d. Spoiled {T = LocalFsFile} (view.state m) (Err e) d) (sym ends) (spoiled_by {U = LocalFsFile} (view.state m) (view.state m) q e (Err e) (omega arith) refl spoiled)))
 
   opened_at : (m n : S) (path : WebPath) (r : Result LocalFsFile FsError) → Finds (at m) path.names (λ there. Asks (λ s answer t. Opens s there put_options answer t) filed) r (at n)
       → Told view lists writes c m n (OpensAt m path r n)

@@ -20,6 +20,7 @@ use Rattle.dav_core.specs.Tree.{is_dir, is_linked, look}
 use Rattle.dav_core.specs.World.{SameBesidesOpens, World}
 use Rattle.dav_core.specs.Writing.{DoesIn, LeftBy, RemovesFile, Renames}
 use Rattle.dav_core.proofs.UnchangedLemmas.{same_besides, same_besides_then}
+use Rattle.dav_core.proofs.LeftLemmas.{left_refused}
 use Rattle.dav_store.specs.Files.{Spoiled}
 use Rattle.dav_store.specs.View.{Listings, View}
 use Rattle.dav_store.proofs.Reading.{rose_from, rose_on}
@@ -38,10 +39,11 @@ use Rattle.dav_local.specs.Calls.{AfterMove, AfterNotDir, MovesAgain, MovesAt, P
 use Rattle.dav_local.specs.Files.{done_by}
 use Rattle.dav_local.specs.Ways.{rules_of, rules_with}
 use Rattle.dav_local.specs.declared.gathering.LocalFsReadDir.{LocalFsReadDir}
+use Rattle.dav_local.proofs.ByRules.{spoiled_by}
 use Rattle.dav_local_laws.proofs.CallsBefore.{calls_before, moving_numbered, taking_file_numbered}
-use Rattle.dav_local_laws.proofs.CallsDone.{calls_from, left_called, spoiled_from}
+use Rattle.dav_local_laws.proofs.CallsDone.{calls_from, spoiled_from}
 use Rattle.dav_local_laws.proofs.LocalCalls.{LedToBoth, calls_spoiled, found_both, unless_told}
-use Rattle.dav_local_laws.proofs.LocalLooks.{found_there, spoiled_as}
+use Rattle.dav_local_laws.proofs.LocalLooks.{found_there}
 use Rattle.dav_local_laws.proofs.PlainLooks.{called_for}
 use Rattle.dav_local_laws.specs.LocalStore.{IsLocalStore, place}
 
@@ -229,7 +231,7 @@ module _ {S C : Type 0} (view : View S C LocalFsFile) (lists : Listings S C Loca
     then_moved : (v u w : World) → Renamed (Err NotDir) v u → Again u w → Moved v w
     then_moved v u w does again clear free =
         let (refused, left) = does clear free in
-        let same : SameBesidesOpens v u = left_called true NotDir v u (subst (λ a. LeftBy true a v u) refused left) in
+        let same : SameBesidesOpens v u = left_refused true NotDir v u (subst (λ a. LeftBy true a v u) refused left) in
         by refused same (again (ap (λ t. is_linked t from) same.tree ∙ clear) (ap (λ t. is_linked t into) same.tree ∙ free) (ap (λ t. moving t from into) same.tree ∙ refused))
       where
         by : moving v.tree from into ≡ Err NotDir → SameBesidesOpens v u → (RefusedAs u w × Held u) ⊎ FileWent u w → MovesBy view lists writes c from into m r n v w
@@ -283,7 +285,7 @@ module _ {S C : Type 0} (view : View S C LocalFsFile) (lists : Listings S C Loca
   moves_spoiled from into m n e r k q v w le spoiled is ends same = inl (
     calls_spoiled view lists writes c ways memory moment local settings m n (moving v.tree from into) e r k q v w le spoiled is ends same,
     λ meets. subst (λ z. Spoiled {T = Unit} (view.state m) z (view.state n)) (sym is)
-        (subst (λ d. Spoiled {T = Unit} (view.state m) (Err e) d) (sym ends) (spoiled_as {U = Unit} (view.state m) k q e (Err e) le refl spoiled)),
+        (subst (λ d. Spoiled {T = Unit} (view.state m) (Err e) d) (sym ends) (spoiled_by {U = Unit} (view.state m) k q e (Err e) le refl spoiled)),
   )
 
   -- ---- over the store

@@ -1,12 +1,13 @@
 -- What a local store saves by its memory of absent names, and what it keeps there.
 use Rattle.std.proofs.Common.{◌≡◌, ◌&&◌, ◌||◌, ◌==◌, ◌≤◌, inl, inr, ℕ, Bool, true, false, not, codes, List, [], ◌∷◌, ◌++◌, Option, None, Some, Result, Ok, Err, refl, sym, ap, subst, ◌∙◌, if◌then◌else◌, cond, arith}
+use Rattle.std.proofs.lemmas.Bool.{eq-eqb}
 use Rattle.std.specs.Map.{lookup}
 use Rattle.std.specs.Option.{is_some, option_map_or}
-use Rattle.std.proofs.lemmas.Bool.Decides.{nat_tests}
 use Rattle.dav_io.specs.Counts.{RefusedNothing}
 use Rattle.dav_io.specs.declared.clock.Moment.{Moment}
 use Rattle.dav_io.specs.declared.failure.NoMemory.{NoMemory as Starved}
 use Rattle.dav_io.proofs.ToldLemmas.{told_after}
+use Rattle.dav_io.proofs.Rising.{no_rise}
 use Rattle.dav_core.specs.declared.error.FsError.{FsError}
 use Rattle.dav_core.specs.declared.error.FsError.TheVariants as fs
 use Rattle.dav_core.specs.declared.handle.DiskError.{DiskError}
@@ -47,7 +48,7 @@ use Rattle.dav_local.specs.Places.{Place}
 use Rattle.dav_local.specs.Ways.{is_known, rules_of}
 use Rattle.dav_local.specs.Listing.{ListingState, NextEntry}
 use Rattle.dav_local.proofs.Keeping.{asked_keeps}
-use Rattle.dav_local.proofs.Recalling.{no_refusal, no_rise}
+use Rattle.dav_local.proofs.Recalling.{no_refusal}
 use Rattle.dav_local_laws.specs.LocalStore.{IsLocalStore, place}
 use Rattle.dav_local_laws.specs.Sealed.{DeniedAtOnce, IsKnownAbsent, IsWhole, SealedWith, gathered}
 use Rattle.dav_local_laws.proofs.LocalFollows.{next_entry_besides}
@@ -88,9 +89,6 @@ not_virtual ways path dot =
 time_itself : (t : FileTime) → is_time t (Some t) ≡ true
 time_itself t = (time_decides t t).1 refl
 
-itself : (n : ℕ) → (n == n) ≡ true
-itself n = grind (arith, nat_tests)
-
 dir_there : (row : Row) (time : FileTime) → dir_time_of (Ok row) ≡ Some time → (is_dir row.kind ≡ true) × (row.time ≡ time)
 dir_there row time e = by (is_dir row.kind) e
   where
@@ -120,7 +118,7 @@ module _ (p : Place) (path : Names) (known : IsKnownAbsent p path) (t : DiskStat
   concluded : concludes known.cache.entries (parent_of path) (or_empty (last_name path)) known.entry.number ≡ true
   concluded =
       let here : stands known.cache.entries (dir_key (parent_of path)) known.entry.number ≡ true =
-      ap (λ o. option_map_or (λ (e : DuEntry). e.number == known.entry.number) o false) known.holds ∙ itself known.entry.number in
+      ap (λ o. option_map_or (λ (e : DuEntry). e.number == known.entry.number) o false) known.holds ∙ eq-eqb known.entry.number known.entry.number refl in
       rw (here, known.absent) refl
 
   denied : (absent : Bool) (m : MemoryState) → Negates p.memory (parent_of path) (or_empty (last_name path)) p.disk absent m t → (absent ≡ true) × AsksOnce p.disk t

@@ -47,7 +47,7 @@ use Rattle.dav_local.specs.Writing.{WritesAll}
 use Rattle.dav_local.specs.Writing.WritesAll.{more as writes_more, nothing, refused as write_refused}
 use Rattle.dav_local.proofs.ByRules.{tells_keeps}
 use Rattle.dav_local.proofs.Filling.{given_keeps}
-use Rattle.dav_local.proofs.Fronts.{refills_counts}
+use Rattle.dav_local.proofs.Fronts.{refills_counts, same_entry}
 use Rattle.dav_local_laws.specs.LocalStore.{IsLocalStore, place}
 use Rattle.dav_io.specs.declared.clock.Moment.{Moment}
 use Rattle.dav_io.specs.declared.failure.NoMemory.{NoMemory as Starved}
@@ -404,9 +404,6 @@ record Given (from now : ℕ) (r : Result (Option LocalFsDirEntry) FsError) (e :
   sane : Sane from now e
   kept : (entry : LocalFsDirEntry) → r ≡ Ok (Some entry) → Kept from now entry.meta
   refused : (f : FsError) → r ≡ Err f → Refusal from now f
-
-same_entry : (a b : LocalFsDirEntry) → ◌≡◌ {A = Result (Option LocalFsDirEntry) FsError} (Ok (Some a)) (Ok (Some b)) → a ≡ b
-same_entry a b e = cc
 
 gives_sane : (from now : ℕ) (batch : List LocalFsDirEntry) (refused : Option FsError) (k : ListingState) (r : Result (Option LocalFsDirEntry) FsError) (e : ListingState) → k.batch ≡ batch → k.refused ≡ refused → Sane from now k
     → Gives batch refused k r e → Given from now r e

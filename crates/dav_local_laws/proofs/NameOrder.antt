@@ -1,11 +1,9 @@
 -- Names in order: two lists of the same names in order are one, and rows of one directory in order have their names in order.
 use Rattle.std.proofs.Common.{◌≡◌, ◌==◌, ◌<◌, ◌&&◌, ◌||◌, ℕ, suc, Bool, true, false, cond, nat_lt, List, [], ◌∷◌, ◌++◌, length, map, get_or, refl, sym, ap, subst, ◌∙◌, arith, add-one}
-use Rattle.std.proofs.lemmas.Bool.Decides.{nat_tests}
-use Rattle.std.proofs.lemmas.List.Sorted.{IsPermutation-cons, IsPermutation-middle, IsPermutation-refl, IsPermutation-trans, ranks_by, sum_by-IsPermutation}
+use Rattle.std.proofs.lemmas.List.Sorted.{IsPermutation-cons, IsPermutation-middle, IsPermutation-refl, IsPermutation-trans, sum_by-IsPermutation}
 use Rattle.std.proofs.lemmas.List.Sums.{sum_by-cons}
 use Rattle.std.proofs.lemmas.Slice.Eq.{bytes_eq-Decides}
-use Rattle.std.specs.Cmp.{IsStrictWeakOrder}
-use Rattle.std.specs.Cmp.Lexicographic.{nat_list_cmp_total, slice_cmp}
+use Rattle.std.specs.Cmp.Lexicographic.{slice_cmp}
 use Rattle.std.specs.List.{AllByRecursion, sum_by}
 use Rattle.std.specs.List.Sorted.{IsPermutation, IsSortedByKey}
 use Rattle.std.specs.Ordering.{is_lt, nat_cmp, ordering_then}
@@ -14,22 +12,11 @@ use Rattle.std.specs.Str.{bytes_eq}
 use Rattle.dav_core.specs.declared.tree.Row.{Row}
 use Rattle.dav_core.specs.Listing.{name_of}
 use Rattle.dav_core.specs.Path.{Names}
+use Rattle.dav_core.proofs.ByteOrder.{below, not_itself, order, same_name}
 use Rattle.dav_model.specs.Walks.{dir_first, in_order, name_before, put_by}
+use Rattle.dav_walks.proofs.removals.RemovalOrder.{not_before}
 
 -- ---- the order of names
-
-abbrev below : List ℕ → List ℕ → Bool
-below x y = is_lt (slice_cmp nat_cmp x y)
-
-order : IsStrictWeakOrder below
-order = ranks_by nat_list_cmp_total (λ (x : List ℕ). x)
-
-not_itself : (x : List ℕ) → below x x ≡ false
-not_itself x = by_bool (below x x) refl
-  where
-    by_bool : (b : Bool) → below x x ≡ b → b ≡ false
-    by_bool true e = let f : below x x ≡ false = order.one_way x x e in sym e ∙ f
-    by_bool false e = refl
 
 -- the order of the walks is that of the comparison
 before_below : (x y : List ℕ) → name_before x y ≡ below x y
@@ -42,24 +29,6 @@ before_below (a ∷ x) (b ∷ y) = heads (nat_lt a b) (a == b) (before_below x y
     heads true e same = refl
     heads false true same = same
     heads false false same = refl
-
-same_heads : (a b : ℕ) (x y : List ℕ) (l e m f : Bool) → nat_lt a b ≡ l → (a == b) ≡ e → nat_lt b a ≡ m → (b == a) ≡ f → (below x y ≡ false → below y x ≡ false → x ≡ y)
-    → is_lt (ordering_then (cond l Less (cond e Equal Greater)) (slice_cmp nat_cmp x y)) ≡ false → is_lt (ordering_then (cond m Less (cond f Equal Greater)) (slice_cmp nat_cmp y x)) ≡ false
-    → ◌≡◌ {A = List ℕ} (a ∷ x) (b ∷ y)
-same_heads a b x y true e m f p q r s next first second = cc
-same_heads a b x y false e true f p q r s next first second = cc
-same_heads a b x y false true false true p q r s next first second =
-    let same : a ≡ b = grind (arith, nat_tests) in
-    ap (λ n. n ∷ x) same ∙ ap (λ z. b ∷ z) (next first second)
-same_heads a b x y false false false f p q r s next first second = absurd (grind (arith, nat_tests))
-same_heads a b x y false true false false p q r s next first second = absurd (grind (arith, nat_tests))
-
--- names of which neither is below the other are the same
-same_name : (x y : List ℕ) → below x y ≡ false → below y x ≡ false → x ≡ y
-same_name [] [] p q = refl
-same_name [] (b ∷ y) p q = cc
-same_name (a ∷ x) [] p q = cc
-same_name (a ∷ x) (b ∷ y) p q = same_heads a b x y (nat_lt a b) (a == b) (nat_lt b a) (b == a) refl refl refl refl (same_name x y) p q
 
 -- ---- names that ascend
 
@@ -135,9 +104,6 @@ ascending_once xs ys a b order = one_list xs ys a b (λ x. sym (sum_by-IsPermuta
 
 abbrev InDir : Names → Row → Type 0
 InDir dir row = row.path ≡ dir ++ name_of row ∷ []
-
-not_before : (name : List ℕ) → name_before name name ≡ false
-not_before name = before_below name name ∙ not_itself name
 
 -- below one directory a comparison is that of what comes behind it
 dir_below : (at p q : Names) → dir_first (at ++ p) (at ++ q) ≡ dir_first p q

@@ -1,6 +1,5 @@
 -- What a look at a place finds in the told world.
-use Rattle.std.proofs.Common.{◌≡◌, ◌⊎◌, inl, inr, ◌&&◌, ◌-◌, Bool, true, false, cond, List, length, drop, Option, None, Some, Result, Ok, Err, refl, sym, ap, ◌∙◌}
-use Rattle.std.proofs.lemmas.List.{take-append-drop}
+use Rattle.std.proofs.Common.{◌≡◌, ◌⊎◌, inl, inr, ◌&&◌, Bool, true, false, cond, Option, None, Some, Result, Ok, Err, refl, ap}
 use Rattle.dav_io.specs.Told.{Both}
 use Rattle.dav_core.specs.declared.error.FsError.TheVariants as fs
 use Rattle.dav_core.specs.declared.handle.DiskError.{DiskError}
@@ -9,16 +8,16 @@ use Rattle.dav_core.specs.declared.handle.Meta.{Meta}
 use Rattle.dav_core.specs.declared.tree.Kind.{Kind}
 use Rattle.dav_core.specs.declared.tree.Kind.TheVariants.{Dir, File, Link}
 use Rattle.dav_core.specs.declared.tree.Row.{Row}
-use Rattle.dav_core.specs.Disk.{DiskState, IsCounted, IsMetaOf, MetaIn, Refused, way_to}
+use Rattle.dav_core.specs.Disk.{DiskState, IsCounted, IsMetaOf, MetaIn, Refused}
 use Rattle.dav_core.specs.Errors.{fs_error_of}
 use Rattle.dav_core.specs.Info.{Info, info_of, known}
-use Rattle.dav_core.specs.Path.{Names, parent_of}
+use Rattle.dav_core.specs.Path.{Names}
 use Rattle.dav_core.specs.Tree.{is_file, is_link, is_linked, look}
 use Rattle.dav_core.specs.World.{World}
 use Rattle.dav_store.specs.Files.{Spoiled}
 use Rattle.dav_model.specs.Finding.{stood_at}
 use Rattle.dav_model.specs.Head.{Stood, stood_in}
-use Rattle.dav_model.proofs.PlainWalks.{linked_below, unlinked_row}
+use Rattle.dav_model.proofs.PlainWalks.{unlinked_row}
 use Rattle.dav_walks.specs.Follows.{Agrees, Finds}
 use Rattle.dav_local.specs.Files.{looked_as}
 use Rattle.dav_local.specs.Standing.{under_slash}
@@ -48,19 +47,6 @@ called_for T U V Failed found s t r counted = inr (inl (refl, counted.rose refl)
 called_for T U V NoMemory found s t r counted = inr (inr refl)
 
 -- ---- links
-
-no_link : (b : Bool) → (b ≡ true → ⊥) → b ≡ false
-no_link true h = absurd (h refl)
-no_link false h = refl
-
--- where no link stands on a path, none stands on the way to it
-pub clear_way : (follows : Bool) (tree : List Row) (path : Names) → is_linked tree path ≡ false → is_linked tree (way_to follows path) ≡ false
-clear_way true tree path clear = clear
-clear_way false tree path clear =
-    let n = length path - 1 in
-    no_link (is_linked tree (parent_of path)) (λ link.
-    let further : is_linked tree path ≡ true = ap (is_linked tree) (sym (take-append-drop n path)) ∙ linked_below tree (parent_of path) (drop n path) link in
-    let never : true ≡ false = sym further ∙ clear in cc)
 
 -- ---- what is found
 

@@ -1,38 +1,19 @@
 -- Two fillings of a file, one after the other, are one, and what is written behind what was written is written at once.
-use Rattle.std.proofs.Common.{◌≡◌, ◌≤◌, ◌+◌, ◌-◌, ◌==◌, ◌⊎◌, inl, inr, ℕ, Bool, true, false, List, [], ◌∷◌, ◌++◌, map, length, take, drop, replicate, Option, Some, refl, sym, ap, subst, ◌∙◌, arith, append_assoc, length-append}
+use Rattle.std.proofs.Common.{◌≡◌, ◌≤◌, ◌+◌, ◌-◌, ◌==◌, inl, inr, ℕ, Bool, true, false, List, [], ◌++◌, map, length, take, drop, replicate, Option, Some, refl, sym, ap, subst, ◌∙◌, arith, append_assoc, length-append}
 use Rattle.std.proofs.Math.Seq.{drop-append_seam}
 use Rattle.std.proofs.lemmas.List.{length-take-le, take-append-drop}
 use Rattle.dav_core.specs.declared.time.FileTime.{FileTime}
-use Rattle.dav_core.specs.declared.tree.Row.{Row}
-use Rattle.dav_core.specs.Edits.{Becomes, Edited, IsNew, filled, fills, timed_number}
-use Rattle.dav_core.specs.World.{Holds, NotAfter, Stored, World, bytes_of, put}
+use Rattle.dav_core.specs.Edits.{Becomes, Edited, filled, fills, timed_number}
+use Rattle.dav_core.specs.World.{Holds, Stored, World, bytes_of, put}
 use Rattle.dav_core.specs.Writing.{written}
-use Rattle.dav_core.proofs.TimesLemmas.{later_than, not_after_then}
+use Rattle.dav_core.proofs.TimesLemmas.{not_after_then}
 use Rattle.dav_core.proofs.EditsLemmas.{edit_then}
-use Rattle.dav_walks.proofs.trees.EditsJoined.{filled_after, filled_bytes, numbered_map}
+use Rattle.dav_core.proofs.FilesLemmas.{new_from}
+use Rattle.dav_walks.proofs.trees.EditsJoined.{filled_after, filled_bytes, held_filled}
+use Rattle.dav_methods.proofs.plans.FilledTwice.{rows_twice}
 use Rattle.dav_local.proofs.WrittenBytes.{written_on}
 
 -- ---- rows and numbers
-
-retimed : (b : Bool) (number : ℕ) (s t : FileTime) (row : Row) → (row.number == number) ≡ b → timed_number number t (timed_number number s row) ≡ timed_number number t row
-retimed true number s t row e = rw e (rw e refl)
-retimed false number s t row e = rw e (rw e refl)
-
--- of two times of a file's row the second stays
-retimed_all : (number : ℕ) (s t : FileTime) (rows : List Row) → map (timed_number number t) (map (timed_number number s) rows) ≡ map (timed_number number t) rows
-retimed_all number s t [] = refl
-retimed_all number s t (row ∷ rows) = rw (retimed (row.number == number) number s t row refl, retimed_all number s t rows) refl
-
-same_number : (b : Bool) (number : ℕ) (t : FileTime) (row : Row) → (row.number == number) ≡ b → (timed_number number t row).number ≡ row.number
-same_number true number t row e = rw e refl
-same_number false number t row e = rw e refl
-
--- what is held where a file was filled was held before
-before_filled : (number n : ℕ) (bytes : List ℕ) (t : FileTime) (u : World) → Holds u n ⊎ Holds (filled number bytes t u) n → Holds u n
-before_filled number n bytes t u (inl h) = h
-before_filled number n bytes t u (inr (inl row)) =
-    inl (sym (numbered_map (timed_number number t) n u.tree (λ (row : Row). same_number (row.number == number) number t row refl)) ∙ row)
-before_filled number n bytes t u (inr (inr o)) = inr o
 
 -- of two values that are put under one number the second stays
 over : {A : Type 0} (b : Bool) (k n : ℕ) (x y : A) (f : ℕ → A) → (n == k) ≡ b → put k y (put k x f) n ≡ put k y f n
@@ -43,9 +24,6 @@ put_like : {A : Type 0} (b : Bool) (k n : ℕ) (x : A) (f g : ℕ → A) → (n 
 put_like true k n x f g e h = rw e refl
 put_like false k n x f g e h = rw e h
 
-new_from : (a b c : World) (t : FileTime) → NotAfter a.latest b.latest → IsNew b t c → IsNew a t c
-new_from a b c t before new = record { later = later_than t a.latest b.latest before new.later; used = new.used; nanos = new.nanos }
-
 abbrev stored_as : List ℕ → FileTime → Option Stored
 stored_as bytes t = Some (record { bytes = bytes; time = t })
 
@@ -53,11 +31,11 @@ stored_as bytes t = Some (record { bytes = bytes; time = t })
 
 fills_twice : (number : ℕ) (a b : List ℕ) (s t : FileTime) (u v w : World) → Becomes u (filled number a s u) v → Becomes v (filled number b t v) w → Becomes u (filled number b t u) w
 fills_twice number a b s t u v w p q = record {
-  tree = q.tree ∙ (ap (map (timed_number number t)) p.tree ∙ retimed_all number s t u.tree);
+  tree = q.tree ∙ (ap (map (timed_number number t)) p.tree ∙ rows_twice number s t u.tree);
   files = λ n h.
       (let (held, is) = q.files n h in
-      let (first, was) = p.files n (before_filled number n b t v held) in (
-        inl (before_filled number n a s u first),
+      let (first, was) = p.files n (held_filled number n b t v held) in (
+        inl (held_filled number n a s u first),
         is ∙ (put_like (n == number) number n (stored_as b t) v.files (put number (stored_as a s) u.files) refl was
             ∙ over (n == number) number n (stored_as a s) (stored_as b t) u.files refl),
       ));

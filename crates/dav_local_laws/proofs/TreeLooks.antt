@@ -1,18 +1,20 @@
 -- In a tree, a look finds what stands at a path.
-use Rattle.std.proofs.Common.{◌≡◌, ◌==◌, ◌&&◌, ◌+◌, ◌-◌, ◌≤◌, ℕ, zero, suc, Bool, true, false, cond, List, [], ◌∷◌, ◌++◌, length, take, Option, None, Some, Result, Ok, refl, sym, ap, subst, ◌∙◌, inl, inr, arith, append_assoc, append-nil, length-append}
+use Rattle.std.proofs.Common.{◌≡◌, ◌==◌, ◌+◌, ◌-◌, ◌≤◌, ℕ, zero, suc, Bool, true, false, List, [], ◌∷◌, ◌++◌, length, take, Option, None, Some, Result, Ok, refl, sym, ap, subst, ◌∙◌, inl, inr, arith, append_assoc, append-nil, length-append}
 use Rattle.std.proofs.Math.Seq.{take-append_seam}
 use Rattle.std.proofs.lemmas.Bool.{and_parts}
 use Rattle.std.proofs.lemmas.Bool.Decides.{nat_tests}
 use Rattle.std.proofs.lemmas.List.{length-take-le}
 use Rattle.std.specs.List.{list_all}
+use Rattle.dav_io.proofs.Cases.{second_test}
 use Rattle.dav_core.specs.declared.handle.DiskError.{DiskError}
 use Rattle.dav_core.specs.declared.tree.Kind.{Kind}
 use Rattle.dav_core.specs.declared.tree.Kind.TheVariants.{Dir, File, Link}
 use Rattle.dav_core.specs.declared.tree.Row.{Row}
 use Rattle.dav_core.specs.Listing.{listable}
 use Rattle.dav_core.specs.Path.{Names, parent_of, same_names}
-use Rattle.dav_core.specs.Tree.{below, below_kind, has_dir, is_apart, is_dir, is_dir_row, is_placed, is_tree, look, look_from, row_at, standing}
+use Rattle.dav_core.specs.Tree.{below, below_kind, has_dir, is_dir, is_dir_row, is_placed, is_tree, look, look_from, row_at, standing}
 use Rattle.dav_core.proofs.Plain.{names_same}
+use Rattle.dav_core.proofs.Rows.{dir_row, tree_parts}
 use Rattle.dav_model.specs.Finding.{IsOf}
 use Rattle.dav_model.proofs.LooseWalks.{find_row}
 
@@ -26,14 +28,6 @@ all_of p (r ∷ rows) row (inr of) all = all_of p rows row of (and_parts (p r) (
 not_empty : (path : Names) → 1 ≤ length path → (length path == 0) ≡ false
 not_empty path some = grind (arith, nat_tests)
 
-placed_below : (b : Bool) (x y : Bool) → b ≡ false → cond b x y ≡ true → y ≡ true
-placed_below true x y e placed = cc
-placed_below false x y e placed = placed
-
-dir_stands : (o : Option Row) → is_dir_row o ≡ true → (d : Row) × (o ≡ Some d)
-dir_stands None e = cc
-dir_stands (Some d) e = (d, refl)
-
 take_less : (k n : ℕ) (path : Names) → k ≤ n → take k (take n path) ≡ take k path
 take_less zero n path le = refl
 take_less (suc k) zero path le = absurd (omega arith)
@@ -42,9 +36,7 @@ take_less (suc k) (suc n) (x ∷ path) le = ap (λ z. x ∷ z) (take_less k n pa
 
 module _ (tree : List Row) (is : is_tree tree ≡ true) where
   placed : list_all (is_placed tree) tree ≡ true
-  placed =
-      let parts = and_parts (has_dir tree []) (list_all (is_placed tree) tree && is_apart tree) is in
-      (and_parts (list_all (is_placed tree) tree) (is_apart tree) parts.1).0
+  placed = (tree_parts tree is).placed
 
   -- above what stands is a directory
   parent_dir : (path : Names) (row : Row) → row_at tree path ≡ Some row → 1 ≤ length path → has_dir tree (parent_of path) ≡ true
@@ -53,13 +45,13 @@ module _ (tree : List Row) (is : is_tree tree ≡ true) where
       let path_is : path ≡ row.path = names_same path row.path same in
       let own = all_of (is_placed tree) tree row of placed in
       ap (λ p. has_dir tree (parent_of p)) path_is
-      ∙ placed_below (length row.path == 0) (is_dir row.kind) (has_dir tree (parent_of row.path)) (ap (λ p. length p == 0) (sym path_is) ∙ not_empty path some) own
+      ∙ second_test (length row.path == 0) (is_dir row.kind) (has_dir tree (parent_of row.path)) (ap (λ p. length p == 0) (sym path_is) ∙ not_empty path some) own
 
   dirs_above : (k : ℕ) (path : Names) (row : Row) → row_at tree path ≡ Some row → suc k ≤ length path → has_dir tree (take (length path - suc k) path) ≡ true
   dirs_above zero path row at some = parent_dir path row at some
   dirs_above (suc k) path row at some =
       let n = length path - suc k in
-      let (d, there) = dir_stands (row_at tree (take n path)) (dirs_above k path row at (omega arith)) in
+      let (d, there, kind) = dir_row (row_at tree (take n path)) (dirs_above k path row at (omega arith)) in
       let long : length (take n path) ≡ n = length-take-le n path (omega arith) in
       let up = parent_dir (take n path) d there (omega arith) in
       let less : length (take n path) - 1 ≡ length path - suc (suc k) = omega arith in
@@ -98,5 +90,5 @@ module _ (tree : List Row) (is : is_tree tree ≡ true) where
   -- A directory of a tree is listed.
   pub dir_listed : (path : Names) → has_dir tree path ≡ true → (row : Row) × (listable (look tree path) ≡ Ok row)
   dir_listed path dir =
-      let (row, there) = dir_stands (row_at tree path) dir in
+      let (row, there, kind) = dir_row (row_at tree path) dir in
       (row, ap listable (found_from [] path row there) ∙ listable_kind row (sym (ap is_dir_row there) ∙ dir))

@@ -18,10 +18,7 @@ use Rattle.dav_upload.specs.Shown.{IsCommitted, StandsBeside, shown_as, shown_at
 use Rattle.dav_core.proofs.Paths.{names_same, names_equal, names_differ, front_itself}
 use Rattle.dav_core.proofs.ChangedRows.{timed_path, timed_kind, timed_number}
 use Rattle.dav_core.proofs.Rows.{first_none, first_some, next_some}
-
-pub never : {P : Type 0} (b : Bool) → b ≡ true → b ≡ false → P
-never true e f = cc
-never false e f = cc
+pub use Rattle.dav_walks.proofs.trees.TreeRows.{not_both as never}
 
 -- ---- times
 

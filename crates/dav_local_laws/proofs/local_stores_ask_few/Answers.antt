@@ -1,7 +1,8 @@
+use Rattle.std.proofs.lemmas.Bool.{or_parts}
 use Rattle.dav_model.specs.Calls.{is_judged}
 use Rattle.dav_model.specs.Finding.{is_virtual, or_walk}
 use Rattle.dav_local.specs.Ways.{rules_with}
-use Rattle.dav_local_laws.proofs.LocalAsks.{asks_meant, asks_near, asks_sought, asks_unsought, or_parts}
+use Rattle.dav_local_laws.proofs.LocalAsks.{asks_meant, asks_near, asks_sought, asks_unsought}
 use Rattle.dav_local_laws.proofs.local_stores_ask_few.Goals as goal
 
 pub returns-clause-meant : goal.returns-clause-meant

@@ -17,7 +17,7 @@ row_twice number t u row = by (row.number == number) refl
     by true e = rw e (rw e refl)
     by false e = rw e (rw e refl)
 
-rows_twice : (number : ℕ) (t u : FileTime) (rows : List Row) → map (timed_number number u) (map (timed_number number t) rows) ≡ map (timed_number number u) rows
+pub rows_twice : (number : ℕ) (t u : FileTime) (rows : List Row) → map (timed_number number u) (map (timed_number number t) rows) ≡ map (timed_number number u) rows
 rows_twice number t u [] = refl
 rows_twice number t u (row ∷ rows) = ap₂ ◌∷◌ (row_twice number t u row) (rows_twice number t u rows)
 

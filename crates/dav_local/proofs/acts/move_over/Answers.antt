@@ -1,4 +1,4 @@
-use Rattle.dav_local.proofs.Framing.{open_then}
+use Rattle.dav_store.proofs.Staying.{open_then}
 use Rattle.dav_local.proofs.acts.move_over.Goals as goal
 
 pub returns-clause-keeps : goal.returns-clause-keeps

@@ -1,5 +1,5 @@
 use Rattle.std.proofs.Common.{[], ◌++◌, ◌∷◌, ap, inl, inr}
-use Rattle.dav_store.specs.Members.{begun, goes}
+use Rattle.dav_store.specs.Members.{Answered, begun, goes}
 use Rattle.dav_store.proofs.Staying.{listing_beside, listing_on, listing_same}
 use Rattle.dav_walks.specs.Walking.{members_at}
 use Rattle.dav_walks.proofs.steps.MembersRead.{entry_refused, none_told, told_then}
@@ -16,15 +16,14 @@ entries-preserved g c =
     let before = c.entries.invariant in
     let added = c.in-Ok.ensures in
     let answers = before.walk.0 in
-    let r = added.told.0 in
-    let name = g.S.GuardedFileSystem.listings.called c.in-Ok-Some.entry in
+    let last : Answered = record { name = g.S.GuardedFileSystem.listings.called c.in-Ok-Some.entry; meta = added.told.0 } in
     record {
       stays = listing_beside _ _ _ _ _ _ _ (listing_on _ _ _ _ _ _ _ _ before.stays c.next_entry.ensures.lister c.next_entry.ensures.stays) added.stays;
       walk = (
-        answers ++ record { name = name; meta = r } ∷ [],
-        goes answers c.entries.fs c.next_entry.new.self c.add_child.new.fs c.entries.dir c.next_entry.new.dir c.in-Ok-Some.entry r before.walk.1
+        answers ++ last ∷ [],
+        goes answers c.entries.fs c.next_entry.new.self c.add_child.new.fs c.entries.dir c.next_entry.new.dir c.in-Ok-Some.entry last.meta before.walk.1
             (rw c.in-Ok-Some.field-0-is at c.in-Ok-Some.ensures.done) added.told.1 added.store added.stays.keeps,
-        λ path. told_then path answers name r (members_at path c.entries.members.items) (members_at path c.add_child.new.members.items) (before.walk.2 path) (added.told.2 path),
+        λ path. told_then path answers last.name last.meta (members_at path c.entries.members.items) (members_at path c.add_child.new.members.items) (before.walk.2 path) (added.told.2 path),
       );
     }
 

@@ -1,4 +1,4 @@
-use Rattle.dav_local.proofs.Framing.{open_then}
+use Rattle.dav_store.proofs.Staying.{open_then}
 use Rattle.dav_local.proofs.fs.LocalFs.create_defaults.Goals as goal
 
 pub returns-in-Ok-clause-keeps : goal.returns-in-Ok-clause-keeps

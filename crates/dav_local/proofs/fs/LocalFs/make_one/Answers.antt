@@ -1,4 +1,4 @@
-use Rattle.dav_local.proofs.Framing.{open_after}
+use Rattle.dav_store.proofs.Staying.{open_after}
 use Rattle.dav_local.proofs.fs.LocalFs.make_one.Goals as goal
 
 pub returns-clause-keeps : goal.returns-clause-keeps

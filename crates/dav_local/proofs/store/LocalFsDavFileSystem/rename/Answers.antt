@@ -1,5 +1,5 @@
 use Rattle.std.proofs.Common.{◌∙◌}
-use Rattle.dav_local.proofs.Framing.{open_after}
+use Rattle.dav_store.proofs.Staying.{open_after}
 use Rattle.dav_local.proofs.store.LocalFsDavFileSystem.rename.Goals as goal
 
 pub returns-clause-stays : goal.returns-clause-stays
