@@ -105,7 +105,7 @@ by_steps trail a request now body old new player b e ran =
     three_ran f.move g.move h.move a request now body old new player b f.here g.here h.here (subst (λ t. Ran t a old new player b) is ran)
 
 -- a run that went well answered all of its steps
-no_rest : (rest : List Step) (m b : Stage) → Ends (Ok tt) rest m b → rest ≡ []
+pub no_rest : (rest : List Step) (m b : Stage) → Ends (Ok tt) rest m b → rest ≡ []
 no_rest [] m b ends = refl
 no_rest (x ∷ xs) m b ends = absurd ends
 

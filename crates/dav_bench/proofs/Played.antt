@@ -1,6 +1,7 @@
 -- What the steps of one file are answered, and that the player is ready for the next.
 use Rattle.std.proofs.Common.{◌≡◌, inl, inr, ℕ, zero, suc, ◌+◌, ◌-◌, ◌==◌, ◌<◌, ◌≤◌, Bool, true, false, min, List, [], ◌∷◌, ◌++◌, length, take, Option, None, Some, is_some, Ok, refl, sym, ap, ap₂, subst, ◌∙◌, arith, append-nil}
 use Rattle.std.proofs.lemmas.Bool.Decides.{nat_tests}
+use Rattle.std.proofs.lemmas.Bool.{eq-eqb}
 use Rattle.dav_io.specs.Counts.{Rose, greatest}
 use Rattle.dav_io.specs.Told.{Both}
 use Rattle.dav_io.specs.declared.fields.Field.{Field}
@@ -31,12 +32,9 @@ use Rattle.dav_bench.proofs.Moves.{ThreeMoves}
 
 -- ---- worlds
 
-itself : (n : ℕ) → (n == n) ≡ true
-itself n = grind (arith, nat_tests)
-
 held : (m i j : ℕ) (w : World) → i < 8 → j < m → w.tree ≡ rows m → Holds w (file_row m i j).number
 held m i j w it jt e =
-    inl (ap (λ tree. is_numbered tree (file_row m i j).number) e ∙ some_file (λ row. (file_row m i j).number == row.number) 8 m i j it jt (itself (file_row m i j).number))
+    inl (ap (λ tree. is_numbered tree (file_row m i j).number) e ∙ some_file (λ row. (file_row m i j).number == row.number) 8 m i j it jt (eq-eqb (file_row m i j).number (file_row m i j).number refl))
 
 bench_stays : (m : ℕ) (v w : World) → IsBench m v → SameBesidesOpens v w → IsBench m w
 bench_stays m v w b same = record {
@@ -108,7 +106,7 @@ by_tree target rules fields body s t reply i j e f g by =
 -- ---- polls
 
 at_key : {A : Type 0} (k n : ℕ) (a : A) (f : ℕ → A) → n ≡ k → put k a f n ≡ a
-at_key k n a f e = let here : (n == k) ≡ true = ap (λ z. z == k) e ∙ itself k in rw here refl
+at_key k n a f e = let here : (n == k) ≡ true = ap (λ z. z == k) e ∙ eq-eqb k k refl in rw here refl
 
 gets_left : (body n : ℕ) (parts : List Part) (p q : Playing) → n ≡ body → Gets body parts p q → q.left n ≡ parts
 gets_left body n parts p q e gets = ap (λ (z : Playing). z.left n) gets.is ∙ at_key body n parts p.left e

@@ -43,7 +43,7 @@ use Rattle.dav_core.proofs.Rows.{file_kind}
 pub rose_through : (a b c d : ℕ) → a ≤ b → Rose b c → c ≤ d → Rose a d
 rose_through a b c d le rose more = grind arith
 
-none_left : (n : ℕ) (parts : List BodyPart) → parts_of n parts ≡ [] → parts ≡ []
+pub none_left : (n : ℕ) (parts : List BodyPart) → parts_of n parts ≡ [] → parts ≡ []
 none_left n [] is = refl
 none_left n (part ∷ parts) is = cc
 

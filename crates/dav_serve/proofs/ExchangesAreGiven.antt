@@ -15,9 +15,9 @@ use Rattle.dav_model.specs.Rules.{Rules, Knowledge}
 use Rattle.dav_model.specs.Trail.{Move, Point, answers_of as answers_along, steps_of as steps_along, target_of}
 use Rattle.dav_model.proofs.Framing.{given_length, gives_none}
 use Rattle.dav_model.proofs.RightReplies.{replies_framed}
+use Rattle.dav_bench.proofs.Moves.{no_rest}
 use Rattle.dav_serve.specs.Exchange.{Exchange, begun_answers, piece_steps, piece_answers, steps_of, answers_of}
 use Rattle.dav_serve.specs.Stages.{PlayedOn}
-use Rattle.dav_serve.proofs.StepsArePlayed.{all_played}
 
 -- a body that was polled: it gave these pieces, and then this answer
 abbrev pub PolledPieces : List Part → List (List ℕ) → Answer → Type 0
@@ -98,7 +98,7 @@ given_by p q s x last (t ∷ u ∷ (v ∷ moves)) e f (m, first, o, (n, second, 
 -- what an exchange was given whose steps were all played
 pub given_of : (a b : Stage) (x : Exchange) (last : Answer) → PlayedOn a (steps_of x) (begun_answers x ++ Done ∷ last ∷ []) (Ok tt) b → Given a.playing.rules x last
 given_of a b x last r =
-    let steps = sym (r.played.steps_are ∙ ap (λ z. steps_along r.trail ++ z) (all_played r.played.rest _ b r.played.ends) ∙ append-nil (steps_along r.trail)) in
+    let steps = sym (r.played.steps_are ∙ ap (λ z. steps_along r.trail ++ z) (no_rest r.played.rest _ b r.played.ends) ∙ append-nil (steps_along r.trail)) in
     given_by a.playing r.played.player a.at x last r.trail steps (sym r.played.answers_are) r.played.answered
 
 -- to its end

@@ -1,5 +1,5 @@
 -- An answer to a HEAD, and one with 304, has no pieces.
-use Rattle.std.proofs.Common.{◌≡◌, ◌==◌, ◌&&◌, ◌⊎◌, ℕ, List, [], ◌∷◌, Bool, true, false, cond, not, Option, None, Some, Ok, Err, Result, codes, refl, sym, ap, subst, ◌∙◌, inl, inr}
+use Rattle.std.proofs.Common.{◌≡◌, ◌==◌, ◌&&◌, ◌⊎◌, ℕ, List, [], Bool, true, false, cond, not, Option, None, Some, Ok, Err, Result, codes, refl, sym, ap, subst, ◌∙◌, inl, inr}
 use Rattle.http.specs.Request.{head_of, body_of}
 use Rattle.dav_core.specs.DavPath.{WebPath}
 use Rattle.dav_core.specs.Methods.{method_of}
@@ -7,18 +7,17 @@ use Rattle.dav_core.specs.declared.method.DavMethod.{DavMethod}
 use Rattle.dav_core.specs.declared.method.DavMethod.TheVariants.{Head}
 use Rattle.dav_core.specs.declared.parse_error.ParseError.{ParseError}
 use Rattle.dav_io.specs.Counts.{Rose}
-use Rattle.dav_model.specs.declared.answer.Answer.TheVariants.{Piece, End}
+use Rattle.dav_model.specs.declared.answer.Answer.TheVariants.{End}
 use Rattle.dav_model.specs.declared.target.Target.{Target}
 use Rattle.dav_model.specs.declared.target.Target.TheVariants.{At, Methods, Refused, Writes}
 use Rattle.dav_model.specs.Announced.{PolledToEnd}
-use Rattle.dav_model.specs.Bodies.{Part}
 use Rattle.dav_model.specs.Conditions.{Fields, Asked, fields_of}
 use Rattle.dav_model.specs.Gates.{Bulk, none, some, much, broken, admitted, asked, bulk_of, is_allowed, is_built, or_refused, takes_much, takes_some, unless, weighed, with_method, with_path}
 use Rattle.dav_model.specs.Head.{Reply, is_get}
 use Rattle.dav_model.specs.Play.{Replies, Stage}
 use Rattle.dav_model.specs.Rules.{Rules, Knowledge}
 use Rattle.dav_model.specs.Trail.{Point, target_of}
-use Rattle.dav_model.proofs.Framing.{gives_none}
+use Rattle.dav_model.proofs.Framing.{gives_none, none_polled}
 use Rattle.dav_model.proofs.RightReplies.{replies_framed}
 use Rattle.dav_model.proofs.WriteReplies.{write_bare}
 use Rattle.dav_serve.specs.Bodies.{IsToHead}
@@ -71,12 +70,6 @@ heads_gates rules r e =
     heads_weighed (head_of r).headers (bulk_of (body_of r)) (admitted rules.settings true (head_of r))
     (subst (λ z. IsHeads (with_method rules.settings true (head_of r) (method_of z))) (sym e)
     (heads_allowed (is_allowed true rules.settings.allow Head) _ (heads_path _)))
-
--- A body of no parts gives no pieces.
-pub none_polled : (parts : List Part) (pieces : List (List ℕ)) → parts ≡ [] → PolledToEnd parts pieces → pieces ≡ []
-none_polled [] [] e polled = refl
-none_polled [] (piece ∷ pieces) e (rest, poll, more) = let f : Piece piece ≡ End = poll.polls.0 in cc
-none_polled (part ∷ parts) pieces e polled = cc
 
 unmodified : (gives : Bool) (status : ℕ) → status ≡ 304 → gives && not (status == 304) ≡ false
 unmodified true status e = rw e refl

@@ -1,6 +1,6 @@
 -- What a look for the next request reads, call by call, and what it gives.
 use Rattle.std.proofs.Common.{◌≡◌, ◌<◌, ◌≤◌, ◌^◌, ◌++◌, ℕ, List, [], ◌∷◌, Result, Ok, Err, length, take, drop, sym, ap, subst, ◌∙◌, refl, arith, append_assoc, append-nil, length-append}
-use Rattle.std.proofs.lemmas.List.{append_cancel_left, take-append-drop, take_all}
+use Rattle.std.proofs.lemmas.List.{append_cancel_left, take-append-drop}
 use Rattle.http.specs.declared.request.Parts.{Parts}
 use Rattle.http.specs.Request.{body_of, head_of}
 use Rattle.httparse.specs.Grammar.{HasNoRequest, MayBecomeRequest, print_request, RequestHead}
@@ -12,7 +12,7 @@ use Rattle.dav_wire.specs.Bodies.{IsBody, BodyRefusal, IsBodyUnfinished}
 use Rattle.dav_wire.specs.BodyReading.{ReadsOn, ReadsBody, GivesBody}
 use Rattle.dav_wire.specs.Heads.{IsRead}
 use Rattle.dav_wire.specs.Messages.{refused_head, refused_body, open_head, open_body}
-use Rattle.dav_wire.specs.Reading.{Behind, Fills, FillsThen, Finds, Moves, sending, Pending}
+use Rattle.dav_wire.specs.Reading.{Fills, FillsThen, Finds, Moves, sending, Pending}
 use Rattle.dav_wire.specs.Requests.{IsRequest, Refusal}
 use Rattle.dav_wire.specs.Writing.{Pushes}
 use Rattle.dav_wire.specs.declared.announcing.Announced.{Announced}
@@ -23,7 +23,7 @@ use Rattle.dav_wire.specs.declared.next.Found.TheVariants.{Whole as FoundWhole, 
 use Rattle.dav_wire.specs.declared.next.ReadError.{ReadError}
 use Rattle.dav_wire.specs.declared.next.ReadError.TheVariants.{Failed, TooMuch, NoMemory as WithoutMemory, Unsent}
 use Rattle.dav_wire.proofs.BodyLaws.{bodies_stay, parts_announce}
-use Rattle.dav_wire.proofs.BodyProgress.{nothing_read}
+use Rattle.dav_wire.proofs.BodyProgress.{none_left, nothing_read, same_bytes, sending_same}
 use Rattle.dav_wire.proofs.Pushing.{pushes_then}
 use Rattle.dav_wire.proofs.RequestLemmas.{request_stays}
 use Rattle.dav_model.specs.Conditions.{Asked}
@@ -102,15 +102,9 @@ wants held kept same short none may = subst IsWanting (sym same) (wanting_head s
 pub head_more : {old between : Stream} {held mid next : Pending} (parts : Parts) → ReadsOn old held [] mid between → Finds mid.bytes (Ok More) parts next.bytes → next.taken ≡ mid.taken → ReadsOn old held [] next between
 head_more {between = between} {next = next} parts a found count = reads_then [] a (sym found.0) count (nothing_read between next)
 
-same_held : (held kept : Pending) (n : ℕ) → n ≡ 0 → Behind held n kept → kept.bytes ≡ held.bytes
-same_held held kept n zero b = sym (take_all (length held.bytes) kept.bytes (let l = b.long in omega arith)) ∙ b.front
-
-none_left : (held kept b c : List ℕ) → kept ≡ held → b ≡ [] → held ++ b ≡ kept ++ c → c ≡ []
-none_left held kept b c same none e = sym (append_cancel_left held b c (e ∙ ap (λ z. z ++ c) same)) ∙ none
-
 fill_empties : {old new : Stream} {held kept : Pending} (n : ℕ) → n ≡ 0 → Fills old held (Ok n) kept new → IsEmptied old new
 fill_empties {old = old} {new = new} {held = held} {kept = kept} n zero f = both_map old.bytes new.bytes (Moves held (Ok n) kept) (λ b c. c ≡ [])
-    (λ b c m. none_left held.bytes kept.bytes b c (same_held held kept n zero f.grows) (m.1 (ap (λ x. Ok x) zero)) m.0) f.told
+    (λ b c m. none_left held.bytes kept.bytes b c (same_bytes held kept n zero f.grows) (m.1 (ap (λ x. Ok x) zero)) m.0) f.told
 
 empties_then : {old between : Stream} {held mid : Pending} {passed : List ℕ} (new : Stream) → ReadsOn old held passed mid between → IsEmptied between new → IsEmptied old new
 empties_then {old = old} {between = between} new a e = both_then old.bytes between.bytes new.bytes (λ x y. x ≡ a.got ++ y) (λ x y. y ≡ []) (λ x y. y ≡ []) (λ x y z f g. g) a.told e
@@ -124,7 +118,7 @@ over_gives old new asked (b ∷ bytes) kept short none may few over = (open_head
 pub head_over : {old between new : Stream} {held mid next kept : Pending} (parts : Parts) (n : ℕ) (end : Next) (asked : Asked) → ReadsOn old held [] mid between → Finds mid.bytes (Ok More) parts next.bytes → next.taken ≡ mid.taken
     → Fills between next (Ok n) kept new → n ≡ 0 → end ≡ over_with kept.bytes → ReadsNext old held (Ok end) asked kept new
 head_over {old = old} {between = between} {new = new} {held = held} {mid = mid} {next = next} {kept = kept} parts n end asked a found count f zero is =
-    let same = same_held next kept n zero f.grows ∙ found.0 in
+    let same = same_bytes next kept n zero f.grows ∙ found.0 in
     record {
       passed = [];
       on = reads_then [] a (sym found.0) count (fill_reads f);
@@ -248,12 +242,6 @@ body_fails {old = old} e asked b a r = record { passed = print_request b.head ++
 
 -- ---- what waits for the sink
 
-sending_as : (A B : Type 0) (e : ReadError) → sending {A = A} (Err e) ≡ sending {A = B} (Err e)
-sending_as A B Failed = refl
-sending_as A B TooMuch = refl
-sending_as A B WithoutMemory = refl
-sending_as A B Unsent = refl
-
 -- behind what was given before
 pub sends_then : {old between new : Stream} {waiting mid later : List ℕ} {result : Result Unit SinkFailed} → Pushes old waiting [] (Ok tt) mid between → Pushes between mid [] result later new
     → Pushes old waiting [] result later new
@@ -262,4 +250,4 @@ sends_then {old = old} {between = between} {new = new} {waiting = waiting} {mid 
 pub sends_not : (A B : Type 0) {old between new : Stream} {waiting mid later : List ℕ} (e : ReadError) → Pushes old waiting [] (Ok tt) mid between
     → Pushes between mid [] (sending {A = A} (Err e)) later new → Pushes old waiting [] (sending {A = B} (Err e)) later new
 sends_not A B {old = old} {new = new} {waiting = waiting} {later = later} e a b =
-    subst (λ z. Pushes old waiting [] z later new) (sending_as A B e) (sends_then a b)
+    subst (λ z. Pushes old waiting [] z later new) (sending_same A B e) (sends_then a b)

@@ -9,12 +9,13 @@ use Rattle.dav_model.specs.Play.{Stage}
 use Rattle.dav_model.specs.Trail.{target_of}
 use Rattle.dav_model.proofs.Nonempty.{piece_some, rest_full}
 use Rattle.dav_model.proofs.RightReplies.{replies_sound}
+use Rattle.dav_model.proofs.Framing.{none_polled}
 use Rattle.dav_wire.specs.Chunks.{HasBody, IsPiece, ending, written}
 use Rattle.dav_wire.specs.declared.chunks.Framing.TheVariants.{Chunked}
 use Rattle.dav_serve.specs.Bodies.{IsBodiless, IsHeadAlone, IsNonempty, IsShort}
 use Rattle.dav_serve.specs.Exchange.{Exchange, answers_of, begun_answers, framing_of, steps_of}
 use Rattle.dav_serve.specs.Stages.{PlayedOn}
-use Rattle.dav_serve.proofs.HeadsHaveNoPieces.{gives_nothing, none_polled}
+use Rattle.dav_serve.proofs.HeadsHaveNoPieces.{gives_nothing}
 use Rattle.dav_serve.proofs.BodiesAreDelimited.{back_in_chunks, head_alone}
 use Rattle.dav_serve.proofs.ExchangesAreGiven.{PolledPieces, given_of, polled_to_end}
 

@@ -1,12 +1,12 @@
 -- With which status a run ends where no fault ends it.
 use Rattle.dav_model.specs.Play.{Stage}
-use Rattle.std.proofs.Common.{◌≡◌, ◌≤◌, ◌<◌, ◌+◌, ◌^◌, ◌++◌, ◌||◌, ◌⊎◌, ℕ, zero, suc, List, [], ◌∷◌, Bool, true, false, IsTrue, Option, Some, None, length, get_or, sym, ap, subst, ◌∙◌, refl, inl, inr, arith, append-nil, length-append, true≢false}
+use Rattle.std.proofs.Common.{◌≡◌, ◌≤◌, ◌<◌, ◌+◌, ◌^◌, ◌++◌, ◌||◌, ◌⊎◌, ℕ, zero, suc, List, [], ◌∷◌, Bool, true, false, IsTrue, Some, length, get_or, sym, ap, subst, ◌∙◌, refl, inl, inr, arith, append-nil, length-append, true≢false}
 use Rattle.std.specs.List.{AllByRecursion}
 use Rattle.std.proofs.lemmas.Str.{IsUtf8-from_ascii}
 use Rattle.httparse.specs.Grammar.{is_token_byte, is_uri_byte, lf, RequestHead, IsRequestHead, print_request, ReadsRequest}
-use Rattle.dav_io.specs.Counts.{Rose, RefusedNothing}
-use Rattle.dav_io.specs.Told.{Both}
-use Rattle.dav_io.proofs.ToldLemmas.{told_after}
+use Rattle.dav_io.specs.Counts.{RefusedNothing}
+use Rattle.dav_io.proofs.ToldLemmas.{both_and, told_after}
+use Rattle.dav_io.proofs.Rising.{no_rise}
 use Rattle.dav_model.specs.Trail.{Point}
 use Rattle.http.specs.Request.{head_of}
 use Rattle.dav_wire.specs.Answers.{has_close_field}
@@ -138,12 +138,6 @@ no_place setup s last a left others xs v second none some chain alike o = by_end
         let f = front_of setup (ready setup.rules setup.knows s) last v.messages c.0 xs chain (subst (λ z. Alike setup z xs) c.1 alike) o in
         closes f.0 f.1
 
-both_and : {A : Type 0} (old new : Option A) (P Q : A → A → Type 0) → Both old new P → Both old new Q → Both old new (λ a b. P a b × Q a b)
-both_and None None P Q p q = tt
-both_and None (Some b) P Q p q = absurd p
-both_and (Some a) None P Q p q = absurd p
-both_and (Some a) (Some b) P Q p q = (p, q)
-
 some_left : (held b : List ℕ) → 0 < length held → held ++ b ≡ [] → ⊥
 some_left held b some e =
     let whole = sym (length-append held b) ∙ ap (length {A = ℕ}) e in
@@ -255,10 +249,6 @@ module _ (setup : Setup) (before after : Outside) (a : List ℕ) (told : before.
       let (ys, y, are, others, closed) = v.serving.follow in
       absurd (true≢false (sym closed ∙ last_open ys y (subst (λ z. AllByRecursion IsOpen z) are o)))
 
-well_not_rose : (n m : ℕ) → RefusedNothing n m → Rose n m → ⊥
-well_not_rose n m w (inl less) = let e = w.same in absurd (omega arith)
-well_not_rose n m w (inr most) = let e = w.room in absurd (omega arith)
-
 not_stopped : (n : ℕ) → (n ≡ 0) ⊎ (n ≡ 6) → IsStopped n → ⊥
 not_stopped n (inl zero') (inl three) = absurd (omega arith)
 not_stopped n (inl zero') (inr (inl four)) = absurd (omega arith)
@@ -296,9 +286,9 @@ module _ (setup : Setup) (before after : Outside) (a : List ℕ) (told : before.
   stopped_by Closed v few well stopped = not_stopped 0 (inl refl) stopped
   stopped_by Refused v few well stopped = not_stopped 6 (inr refl) stopped
   stopped_by Unfinished v few well stopped = not_stopped 6 (inr refl) stopped
-  stopped_by SourceFailed v few well stopped = well_not_rose before.source.faults after.source.faults well.by_source v.0
-  stopped_by SinkFailed v few well stopped = well_not_rose before.sink.faults after.sink.faults well.by_sink v.0
-  stopped_by DiskFailed v few well stopped = well_not_rose before.disk.faults after.disk.faults well.by_disk v.0
+  stopped_by SourceFailed v few well stopped = no_rise before.source.faults after.source.faults well.by_source v.0
+  stopped_by SinkFailed v few well stopped = no_rise before.sink.faults after.sink.faults well.by_sink v.0
+  stopped_by DiskFailed v few well stopped = no_rise before.disk.faults after.disk.faults well.by_disk v.0
   stopped_by TooMuch v few well stopped =
       let took = told_after before.source.bytes after.source.bytes (λ x y. length x ≡ 2 ^ 60 + length y) a v.0 told in
       let n = took.2 in

@@ -1,5 +1,6 @@
 -- What is open goes on through calls at paths, and through turns of the outside.
 use Rattle.std.proofs.Common.{◌≡◌, ℕ, true, Option, None, Some, IsSome, Result, refl, sym, subst}
+use Rattle.dav_io.proofs.Cases.{some_of}
 use Rattle.dav_core.specs.Disk.{DiskState, Live, Turns, can_read}
 use Rattle.dav_core.specs.Unchanged.{KeepsBut}
 use Rattle.dav_store.specs.Files.{LeavesOpen, SameSeen}
@@ -17,17 +18,13 @@ pub read_closed : (h : ℕ) (s m n t : DiskState) → s.live h ≡ None → Keep
 read_closed h s m n t fresh opened read closed gone =
     open_closed h s t (but_then h s n t (but_then h s m n opened (but_kept h m n read)) (but_kept h n t closed)) fresh gone
 
-some_is : {A : Type 0} (o : Option A) → IsSome o → (a : A) × (o ≡ Some a)
-some_is None some = cc
-some_is (Some a) some = (a, refl)
-
 some_read : (o : Option Live) → can_read o ≡ true → IsSome o
 some_read None e = cc
 some_read (Some l) e = refl
 
 -- what others leave of a handle that is live
 pub kept_leaves : (s t : DiskState) → KeepsOpen s t → (h : ℕ) → IsSome (s.live h) → LeavesOpen h s t
-kept_leaves s t keeps h live = let (l, is) = some_is (s.live h) live in record { opened = keeps.opens h l is; live = keeps.live h }
+kept_leaves s t keeps h live = let (l, is) = some_of (s.live h) live in record { opened = keeps.opens h l is; live = keeps.live h }
 
 -- `stays` and `on` are the laws of the file's type.
 module _ {F : Type 0} (view : FileView F) (stays : (f : F) (s t : DiskState) → LeavesOpen (view.handle f) s t → SameSeen (view.seen f s) (view.seen f t))

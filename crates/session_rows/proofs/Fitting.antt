@@ -1,5 +1,6 @@
 -- What a book tells stands in a world with such a tree.
-use Rattle.std.proofs.Common.{◌≡◌, ◌⊎◌, inl, inr, ◌&&◌, ◌==◌, Bool, true, false, List, [], ◌∷◌, None, Some, codes, refl, ap, sym, ◌∙◌}
+use Rattle.std.proofs.Common.{◌≡◌, ◌⊎◌, inl, inr, ◌==◌, Bool, true, false, List, [], ◌∷◌, None, Some, codes, refl, ap, sym, ◌∙◌}
+use Rattle.std.proofs.lemmas.Bool.{and_right}
 use Rattle.std.specs.List.{AllByRecursion}
 use Rattle.dav_core.specs.declared.time.FileTime.{FileTime}
 use Rattle.dav_core.specs.Disk.{DiskState}
@@ -18,14 +19,10 @@ use Rattle.session_rows.specs.Told.{AreQuiet, CanBeTold, IsQuiet, IsToldOf, Tell
 
 -- ---- names of two letters and more, of which there is no other
 
-never : (b : Bool) → (b && false) ≡ false
-never true = refl
-never false = refl
-
 not_d : (time : FileTime) (name x : Name) → Rattle.dav_model.specs.Folds.is_dot x ≡ true → has_in [] x ≡ has_name (told_tree time name) [] x
 not_d time name [] dot = cc
 not_d time name (a ∷ []) dot = cc
-not_d time name (a ∷ b ∷ rest) dot = rw (never (Rattle.dav_cache.specs.Trees.is_dot (a ∷ b ∷ rest)), never (a == 100)) refl
+not_d time name (a ∷ b ∷ rest) dot = rw (and_right (Rattle.dav_cache.specs.Trees.is_dot (a ∷ b ∷ rest)) false refl, and_right (a == 100) false refl) refl
 
 only_a : (time : FileTime) (x : Name) → Rattle.dav_model.specs.Folds.is_dot x ≡ true
     → has_in (codes "._a" ∷ []) x ≡ has_name (told_tree time (codes "._a")) (codes "d" ∷ []) x
