@@ -17,3 +17,4 @@ pub mod Others
 pub mod StepsLeave
 pub mod ReadsLeave
 pub mod SweepsLeave
+pub mod EachStep

@@ -8,3 +8,4 @@ pub mod Uploading
 pub mod Takes
 pub mod Steps
 pub mod Others
+pub mod EachStep

@@ -1,4 +1,4 @@
-ghost use Rattle.std.specs.Prelude.{◌≡◌, ◌≢◌, ◌++◌, ◌<◌, ℕ, Bool, List, None, Ok, Option, Result, Some, false, length, true};
+ghost use Rattle.std.specs.Prelude.{◌≡◌, ◌≢◌, ◌++◌, ◌<◌, ℕ, Bool, List, None, Ok, Option, Some, false, length, true};
 ghost use Rattle.dav_core.specs.declared.tree.Row.{Row};
 ghost use Rattle.dav_core.specs.declared.tree.Kind.TheVariants.{File};
 ghost use Rattle.dav_core.specs.Writing.{reading, written};
@@ -8,17 +8,12 @@ ghost use Rattle.dav_core.specs.Path.{Names, is_plain};
 ghost use Rattle.dav_core.specs.World.{Holds, IsWorld, OpenFile, SameBesidesOpens, World, bytes_of};
 ghost use Rattle.dav_core.specs.Disk.{DiskState, Live};
 ghost use Rattle.dav_core.specs.Unchanged.{Keeps, KeepsBut};
-ghost use Rattle.dav_core.specs.Tree.{is_linked, row_at};
-ghost use Rattle.dav_model.specs.Conditions.{Fields};
-ghost use Rattle.dav_model.specs.declared.outcome.Outcome.{Outcome};
-ghost use Rattle.dav_upload.specs.declared.error.UploadError.{UploadError as Refusal};
-ghost use Rattle.dav_upload.specs.declared.upload.Upload.{Upload};
+ghost use Rattle.dav_core.specs.Tree.{row_at};
+ghost use Rattle.dav_upload.specs.EachStep.{AreWhole, LeaveOthers, SweepsAreUnseen, SweepsLeaveOthers};
 ghost use Rattle.dav_upload.specs.Kept.{KeepsRow};
-ghost use Rattle.dav_upload.specs.Others.{IsAny, IsNot, IsNotHiddenIn, LeavesOthers};
+ghost use Rattle.dav_upload.specs.Others.{IsAny, LeavesOthers};
 ghost use Rattle.dav_upload.specs.Standing.{OthersOpen, StandsIn};
-ghost use Rattle.dav_upload.specs.Steps.{Began, Committed, HasClearNames, IsBeside, IsClear, Pieced};
 ghost use Rattle.dav_upload.specs.Takes.{ReadsPlainly, TakesUploads};
-ghost use Rattle.dav_upload.specs.Uploading.{Aborts, Begins, Commits, Sweeps, WritesPiece};
 ghost use Rattle.dav_store.specs.Files.{WritesIn};
 ghost use Rattle.dav_store.specs.Standing.{Seen};
 ghost use Rattle.dav_upload.specs.Names.{hidden_beside, hidden_name, is_hidden, is_hidden_path};
@@ -75,76 +70,22 @@ pub fn pieces_stand_behind()
 /// makes its target a file of all pieces. At Ok an upload that begins stands, and a commit was made; a piece keeps its
 /// upload standing. Beginnings and pieces leave on which paths links stand.
 pub fn uploads_are_whole<S: GuardedFileSystem<C>, C>(_fs: &S, _credentials: &C)
-    ensures begins { (test : S → Bool) → TakesUploads S.view S.File.view.writes _credentials.now test
-        → (s t : S) (v w : World)
-        (target : WebPath) (fields : Fields) (token : ℕ) (r : Result (Upload S.File) Refusal)
-        → (S.view.state s).told ≡ Some v → (S.view.state t).told ≡ Some w → test s ≡ true
-        → is_linked v.tree (hidden_beside target token).names ≡ false
-        → Begins S.view _credentials.now target fields token s r t
-        → Began S.view.file.handle (S.view.state t).live r v w }
-    ensures pieces { (test : S → Bool) → TakesUploads S.view S.File.view.writes _credentials.now test
-        → (u x : Upload S.File)
-        (s t : S) (v w : World) (bytes pieces : List ℕ) (r : Result Unit Refusal)
-        → (S.view.state s).told ≡ Some v → (S.view.state t).told ≡ Some w
-        → StandsIn (S.view.state s).live v u.hidden.names (S.view.file.handle u.file) u.broken pieces
-        → WritesPiece S.view S.File.view.writes u bytes s r t x
-        → Pieced S.view.file.handle (S.view.state t).live x pieces bytes v w }
-    ensures commits { (test : S → Bool) → TakesUploads S.view S.File.view.writes _credentials.now test
-        → (u : Upload S.File)
-        (s t : S) (v w : World) (pieces : List ℕ) (fields : Fields) (r : Result Outcome Refusal)
-        → (S.view.state s).told ≡ Some v → (S.view.state t).told ≡ Some w → test s ≡ true
-        → StandsIn (S.view.state s).live v u.hidden.names (S.view.file.handle u.file) u.broken pieces
-        → IsBeside u.target.names u.hidden.names → IsClear v u.target.names u.hidden.names
-        → Commits S.view _credentials.now u fields s r t → Committed u.target.names u.broken pieces r v w }
-    ensures aborts { (test : S → Bool) → TakesUploads S.view S.File.view.writes _credentials.now test
-        → (u : Upload S.File)
-        (s t : S) (v w : World) (pieces : List ℕ) (r : Result Unit Refusal)
-        → (S.view.state s).told ≡ Some v → (S.view.state t).told ≡ Some w → test s ≡ true
-        → StandsIn (S.view.state s).live v u.hidden.names (S.view.file.handle u.file) u.broken pieces
-        → is_linked v.tree u.hidden.names ≡ false → Aborts S.view _credentials.now u s r t → SameShown v w }
+    ensures steps { (test : S → Bool) → TakesUploads S.view S.File.view.writes _credentials.now test
+        → AreWhole S.view S.File.view.writes _credentials.now test }
     ensures sweeps { (test : S → Bool) → TakesUploads S.view S.File.view.writes _credentials.now test
-        → ReadsPlainly S.view S.listings _credentials.now test → (dir : WebPath) (s t : S) (v w : World)
-        (r : Result ℕ Refusal) → (S.view.state s).told ≡ Some v → (S.view.state t).told ≡ Some w → test s ≡ true
-        → HasClearNames v dir.names → Sweeps S.view S.listings _credentials.now dir s r t → SameShown v w }
+        → ReadsPlainly S.view S.listings _credentials.now test
+        → SweepsAreUnseen S.view S.listings _credentials.now test }
 {}
 
 /// Over such a store each step of an upload leaves to others what they have: the bytes of each file but its own stay as
 /// long as somebody holds it, what another handle has open stays open with its bytes, and each upload with another
 /// hidden path goes on standing. A sweep leaves so what stands at all but the hidden names of its directory.
 pub fn uploads_leave_others<S: GuardedFileSystem<C>, C>(_fs: &S, _credentials: &C)
-    ensures begins { (test : S → Bool) → TakesUploads S.view S.File.view.writes _credentials.now test
-        → (s t : S) (v w : World) (target : WebPath) (fields : Fields) (token : ℕ) (r : Result (Upload S.File) Refusal)
-        → (S.view.state s).told ≡ Some v → (S.view.state t).told ≡ Some w → test s ≡ true
-        → is_linked v.tree (hidden_beside target token).names ≡ false
-        → Begins S.view _credentials.now target fields token s r t
-        → LeavesOthers None (IsNot (hidden_beside target token).names) (S.view.state s).live (S.view.state t).live v w }
-    ensures pieces { (test : S → Bool) → TakesUploads S.view S.File.view.writes _credentials.now test
-        → (u x : Upload S.File) (s t : S) (v w : World) (bytes pieces : List ℕ) (r : Result Unit Refusal)
-        → (S.view.state s).told ≡ Some v → (S.view.state t).told ≡ Some w
-        → StandsIn (S.view.state s).live v u.hidden.names (S.view.file.handle u.file) u.broken pieces
-        → WritesPiece S.view S.File.view.writes u bytes s r t x
-        → LeavesOthers (Some (S.view.file.handle u.file)) (IsNot u.hidden.names) (S.view.state s).live
-        (S.view.state t).live v w }
-    ensures commits { (test : S → Bool) → TakesUploads S.view S.File.view.writes _credentials.now test
-        → (u : Upload S.File) (s t : S) (v w : World) (pieces : List ℕ) (fields : Fields) (r : Result Outcome Refusal)
-        → (S.view.state s).told ≡ Some v → (S.view.state t).told ≡ Some w → test s ≡ true
-        → StandsIn (S.view.state s).live v u.hidden.names (S.view.file.handle u.file) u.broken pieces
-        → IsBeside u.target.names u.hidden.names → IsClear v u.target.names u.hidden.names
-        → Commits S.view _credentials.now u fields s r t
-        → LeavesOthers (Some (S.view.file.handle u.file)) (IsNot u.hidden.names) (S.view.state s).live
-        (S.view.state t).live v w }
-    ensures aborts { (test : S → Bool) → TakesUploads S.view S.File.view.writes _credentials.now test
-        → (u : Upload S.File) (s t : S) (v w : World) (pieces : List ℕ) (r : Result Unit Refusal)
-        → (S.view.state s).told ≡ Some v → (S.view.state t).told ≡ Some w → test s ≡ true
-        → StandsIn (S.view.state s).live v u.hidden.names (S.view.file.handle u.file) u.broken pieces
-        → is_linked v.tree u.hidden.names ≡ false → Aborts S.view _credentials.now u s r t
-        → LeavesOthers (Some (S.view.file.handle u.file)) (IsNot u.hidden.names) (S.view.state s).live
-        (S.view.state t).live v w }
+    ensures steps { (test : S → Bool) → TakesUploads S.view S.File.view.writes _credentials.now test
+        → LeaveOthers S.view S.File.view.writes _credentials.now test }
     ensures sweeps { (test : S → Bool) → TakesUploads S.view S.File.view.writes _credentials.now test
-        → ReadsPlainly S.view S.listings _credentials.now test → (dir : WebPath) (s t : S) (v w : World)
-        (r : Result ℕ Refusal) → (S.view.state s).told ≡ Some v → (S.view.state t).told ≡ Some w → test s ≡ true
-        → HasClearNames v dir.names → Sweeps S.view S.listings _credentials.now dir s r t
-        → LeavesOthers None (IsNotHiddenIn dir.names) (S.view.state s).live (S.view.state t).live v w }
+        → ReadsPlainly S.view S.listings _credentials.now test
+        → SweepsLeaveOthers S.view S.listings _credentials.now test }
 {}
 
 /// Calls that write nothing leave what is shown, and each upload standing: those that leave nothing open, those that

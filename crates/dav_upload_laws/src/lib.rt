@@ -22,11 +22,12 @@ ghost use Rattle.dav_model.specs.Valid.{IsRegular};
 ghost use Rattle.dav_model.specs.declared.outcome.Outcome.{Outcome};
 ghost use Rattle.dav_upload.specs.declared.error.UploadError.{UploadError as Refusal};
 ghost use Rattle.dav_upload.specs.declared.upload.Upload.{Upload};
+ghost use Rattle.dav_upload.specs.EachStep.{AreWhole, LeaveOthers, SweepsAreUnseen, SweepsLeaveOthers};
 ghost use Rattle.dav_upload.specs.Names.{hidden_beside, is_taken};
-ghost use Rattle.dav_upload.specs.Others.{IsAny, IsNot, IsNotHiddenIn, LeavesOthers};
+ghost use Rattle.dav_upload.specs.Others.{IsAny, LeavesOthers};
 ghost use Rattle.dav_upload.specs.Shown.{SameShown};
 ghost use Rattle.dav_upload.specs.Standing.{StandsIn};
-ghost use Rattle.dav_upload.specs.Steps.{Began, Committed, HasClearNames, IsBeside, IsClear, Pieced};
+ghost use Rattle.dav_upload.specs.Steps.{HasClearNames, IsBeside, IsClear};
 ghost use Rattle.dav_upload.specs.Takes.{ReadsPlainly, TakesUploads};
 ghost use Rattle.dav_upload.specs.Uploading.{Aborts, Begins, Commits, Sweeps, WritesPiece};
 ghost use Rattle.dav_upload_laws.specs.Passing.{PassesTable, Succeeds};
@@ -55,37 +56,10 @@ pub fn local_stores_take_uploads<D: Disk, R: Remember>(_fs: &LocalFs<D, R>)
 /// a beginning, a piece, an abort and a sweep leave what is shown, and a commit leaves it or makes its target a file of
 /// all pieces. At Ok an upload that begins stands, and a commit was made; a piece keeps its upload standing.
 pub fn local_uploads_are_whole<D: Disk, R: Remember>(_fs: &LocalFs<D, R>)
-    ensures begins { (s t : LocalFs D R) (v w : World) (target : WebPath) (fields : Fields) (token : ℕ)
-        (r : Result (Upload LocalFsFile) Refusal) → (D.state s.disk).told ≡ Some v → (D.state t.disk).told ≡ Some w
-        → finds_as_written s.ways ≡ true → is_linked v.tree (hidden_beside target token).names ≡ false
-        → Begins ⟦<LocalFs<D, R> as DavFileSystem>⟧.view tt target fields token s r t
-        → Began ⟦<LocalFs<D, R> as DavFileSystem>⟧.view.file.handle (D.state t.disk).live r v w }
-    ensures pieces { (u x : Upload LocalFsFile) (s t : LocalFs D R) (v w : World) (bytes pieces : List ℕ)
-        (r : Result Unit Refusal) → (D.state s.disk).told ≡ Some v → (D.state t.disk).told ≡ Some w
-        → StandsIn (D.state s.disk).live v u.hidden.names (⟦<LocalFs<D, R> as DavFileSystem>⟧.view.file.handle u.file)
-        u.broken pieces
-        → WritesPiece ⟦<LocalFs<D, R> as DavFileSystem>⟧.view ⟦<LocalFsFile as DavFile<D>>⟧.view.writes u bytes s r t x
-        → Pieced ⟦<LocalFs<D, R> as DavFileSystem>⟧.view.file.handle (D.state t.disk).live x pieces bytes v w }
-    ensures commits { (u : Upload LocalFsFile) (s t : LocalFs D R) (v w : World) (pieces : List ℕ) (fields : Fields)
-        (r : Result Outcome Refusal) → (D.state s.disk).told ≡ Some v → (D.state t.disk).told ≡ Some w
-        → finds_as_written s.ways ≡ true
-        → StandsIn (D.state s.disk).live v u.hidden.names (⟦<LocalFs<D, R> as DavFileSystem>⟧.view.file.handle u.file)
-        u.broken pieces
-        → IsBeside u.target.names u.hidden.names → IsClear v u.target.names u.hidden.names
-        → Commits ⟦<LocalFs<D, R> as DavFileSystem>⟧.view tt u fields s r t
-        → Committed u.target.names u.broken pieces r v w }
-    ensures aborts { (u : Upload LocalFsFile) (s t : LocalFs D R) (v w : World) (pieces : List ℕ)
-        (r : Result Unit Refusal) → (D.state s.disk).told ≡ Some v → (D.state t.disk).told ≡ Some w
-        → finds_as_written s.ways ≡ true
-        → StandsIn (D.state s.disk).live v u.hidden.names (⟦<LocalFs<D, R> as DavFileSystem>⟧.view.file.handle u.file)
-        u.broken pieces
-        → is_linked v.tree u.hidden.names ≡ false
-        → Aborts ⟦<LocalFs<D, R> as DavFileSystem>⟧.view tt u s r t → SameShown v w }
-    ensures sweeps { (dir : WebPath) (s t : LocalFs D R) (v w : World) (r : Result ℕ Refusal)
-        → (D.state s.disk).told ≡ Some v → (D.state t.disk).told ≡ Some w → finds_as_written s.ways ≡ true
-        → HasClearNames v dir.names
-        → Sweeps ⟦<LocalFs<D, R> as DavFileSystem>⟧.view ⟦<LocalFs<D, R> as DavFileSystem>⟧.listings tt dir s r t
-        → SameShown v w }
+    ensures steps { AreWhole ⟦<LocalFs<D, R> as DavFileSystem>⟧.view ⟦<LocalFsFile as DavFile<D>>⟧.view.writes tt
+        (λ s. finds_as_written s.ways) }
+    ensures sweeps { SweepsAreUnseen ⟦<LocalFs<D, R> as DavFileSystem>⟧.view
+        ⟦<LocalFs<D, R> as DavFileSystem>⟧.listings tt (λ s. finds_as_written s.ways) }
 {
     local_stores_take_uploads(_fs)
 }
@@ -94,37 +68,10 @@ pub fn local_uploads_are_whole<D: Disk, R: Remember>(_fs: &LocalFs<D, R>)
 /// long as somebody holds it, what another handle has open stays open with its bytes, and each upload with another
 /// hidden path goes on standing. A sweep leaves so what stands at all but the hidden names of its directory.
 pub fn local_uploads_leave_others<D: Disk, R: Remember>(_fs: &LocalFs<D, R>)
-    ensures begins { (s t : LocalFs D R) (v w : World) (target : WebPath) (fields : Fields) (token : ℕ)
-        (r : Result (Upload LocalFsFile) Refusal) → (D.state s.disk).told ≡ Some v → (D.state t.disk).told ≡ Some w
-        → finds_as_written s.ways ≡ true → is_linked v.tree (hidden_beside target token).names ≡ false
-        → Begins ⟦<LocalFs<D, R> as DavFileSystem>⟧.view tt target fields token s r t
-        → LeavesOthers None (IsNot (hidden_beside target token).names) (D.state s.disk).live (D.state t.disk).live v w }
-    ensures pieces { (u x : Upload LocalFsFile) (s t : LocalFs D R) (v w : World) (bytes pieces : List ℕ)
-        (r : Result Unit Refusal) → (D.state s.disk).told ≡ Some v → (D.state t.disk).told ≡ Some w
-        → StandsIn (D.state s.disk).live v u.hidden.names (⟦<LocalFs<D, R> as DavFileSystem>⟧.view.file.handle u.file)
-        u.broken pieces
-        → WritesPiece ⟦<LocalFs<D, R> as DavFileSystem>⟧.view ⟦<LocalFsFile as DavFile<D>>⟧.view.writes u bytes s r t x
-        → LeavesOthers (Some (⟦<LocalFs<D, R> as DavFileSystem>⟧.view.file.handle u.file)) (IsNot u.hidden.names) (D.state s.disk).live (D.state t.disk).live v w }
-    ensures commits { (u : Upload LocalFsFile) (s t : LocalFs D R) (v w : World) (pieces : List ℕ) (fields : Fields)
-        (r : Result Outcome Refusal) → (D.state s.disk).told ≡ Some v → (D.state t.disk).told ≡ Some w
-        → finds_as_written s.ways ≡ true
-        → StandsIn (D.state s.disk).live v u.hidden.names (⟦<LocalFs<D, R> as DavFileSystem>⟧.view.file.handle u.file)
-        u.broken pieces
-        → IsBeside u.target.names u.hidden.names → IsClear v u.target.names u.hidden.names
-        → Commits ⟦<LocalFs<D, R> as DavFileSystem>⟧.view tt u fields s r t
-        → LeavesOthers (Some (⟦<LocalFs<D, R> as DavFileSystem>⟧.view.file.handle u.file)) (IsNot u.hidden.names) (D.state s.disk).live (D.state t.disk).live v w }
-    ensures aborts { (u : Upload LocalFsFile) (s t : LocalFs D R) (v w : World) (pieces : List ℕ)
-        (r : Result Unit Refusal) → (D.state s.disk).told ≡ Some v → (D.state t.disk).told ≡ Some w
-        → finds_as_written s.ways ≡ true
-        → StandsIn (D.state s.disk).live v u.hidden.names (⟦<LocalFs<D, R> as DavFileSystem>⟧.view.file.handle u.file)
-        u.broken pieces
-        → is_linked v.tree u.hidden.names ≡ false
-        → Aborts ⟦<LocalFs<D, R> as DavFileSystem>⟧.view tt u s r t
-        → LeavesOthers (Some (⟦<LocalFs<D, R> as DavFileSystem>⟧.view.file.handle u.file)) (IsNot u.hidden.names) (D.state s.disk).live (D.state t.disk).live v w }
-    ensures sweeps { (dir : WebPath) (s t : LocalFs D R) (v w : World) (r : Result ℕ Refusal)
-        → (D.state s.disk).told ≡ Some v → (D.state t.disk).told ≡ Some w → finds_as_written s.ways ≡ true
-        → HasClearNames v dir.names → Sweeps ⟦<LocalFs<D, R> as DavFileSystem>⟧.view ⟦<LocalFs<D, R> as DavFileSystem>⟧.listings tt dir s r t
-        → LeavesOthers None (IsNotHiddenIn dir.names) (D.state s.disk).live (D.state t.disk).live v w }
+    ensures steps { LeaveOthers ⟦<LocalFs<D, R> as DavFileSystem>⟧.view ⟦<LocalFsFile as DavFile<D>>⟧.view.writes tt
+        (λ s. finds_as_written s.ways) }
+    ensures sweeps { SweepsLeaveOthers ⟦<LocalFs<D, R> as DavFileSystem>⟧.view
+        ⟦<LocalFs<D, R> as DavFileSystem>⟧.listings tt (λ s. finds_as_written s.ways) }
 {
     local_stores_take_uploads(_fs)
 }

@@ -1,0 +1,34 @@
+-- What holds of each step of an upload, over a store whose calls do what the tree allows.
+use Rattle.std.specs.Prelude.{Bool}
+use Rattle.dav_store.specs.View.{Listings, View}
+use Rattle.dav_walks.specs.Pouring.{Writes}
+use Rattle.dav_upload.specs.EachStep.{AreWhole, LeaveOthers, SweepsAreUnseen, SweepsLeaveOthers}
+use Rattle.dav_upload.specs.Takes.{ReadsPlainly, TakesUploads}
+use Rattle.dav_upload.proofs.Chains.{aborted, began, committed, pieced}
+use Rattle.dav_upload.proofs.StepsLeave.{abort_left, begin_left, commit_left, piece_left}
+use Rattle.dav_upload.proofs.Sweeps.{swept}
+use Rattle.dav_upload.proofs.SweepsLeave.{sweep_left}
+
+module _ {S C F : Type 0} (view : View S C F) (writes : Writes F) (c : C) (test : S → Bool) (takes_all : TakesUploads view writes c test) where
+  pub are_whole : AreWhole view writes c test
+  are_whole = record {
+    begins = λ s t v w target fields token r was now. began view writes c test takes_all s t v w was now target fields token r;
+    pieces = pieced view writes c test takes_all;
+    commits = λ u s t v w pieces fields r was now plain stands. committed view writes c test takes_all u s t v w pieces was now stands plain fields r;
+    aborts = λ u s t v w pieces r was now plain stands. aborted view writes c test takes_all u s t v w pieces was now stands plain r;
+  }
+
+  pub leave_others : LeaveOthers view writes c test
+  leave_others = record {
+    begins = λ s t v w target fields token r was now plain clear. begin_left view writes c test takes_all s t v w was now target token plain clear fields r;
+    pieces = piece_left view writes c test takes_all;
+    commits = λ u s t v w pieces fields r was now plain stands beside clear. commit_left view writes c test takes_all u s t v w pieces was now stands plain beside clear fields r;
+    aborts = λ u s t v w pieces r was now plain stands. abort_left view writes c test takes_all u s t v w pieces was now stands plain r;
+  }
+
+  module _ {L E : Type 0} (lists : Listings S C L E) (reads : ReadsPlainly view lists c test) where
+    pub sweeps_unseen : SweepsAreUnseen view lists c test
+    sweeps_unseen = swept view writes c test takes_all lists reads
+
+    pub sweeps_leave : SweepsLeaveOthers view lists c test
+    sweeps_leave = sweep_left view writes c test takes_all lists reads

@@ -1,0 +1,81 @@
+-- What holds of each step of an upload, over a store of which `test` says that it finds paths as they are written.
+use Rattle.std.specs.Prelude.{◌≡◌, ℕ, List, Bool, true, false, None, Some, Result}
+use Rattle.dav_core.specs.DavPath.{WebPath}
+use Rattle.dav_core.specs.Tree.{is_linked}
+use Rattle.dav_core.specs.World.{World}
+use Rattle.dav_model.specs.declared.outcome.Outcome.{Outcome}
+use Rattle.dav_model.specs.Conditions.{Fields}
+use Rattle.dav_store.specs.View.{Listings, View}
+use Rattle.dav_walks.specs.Pouring.{Writes}
+use Rattle.dav_upload.specs.declared.error.UploadError.{UploadError}
+use Rattle.dav_upload.specs.declared.upload.Upload.{Upload}
+use Rattle.dav_upload.specs.Names.{hidden_beside}
+use Rattle.dav_upload.specs.Others.{IsNot, IsNotHiddenIn, LeavesOthers}
+use Rattle.dav_upload.specs.Shown.{SameShown}
+use Rattle.dav_upload.specs.Standing.{StandsIn}
+use Rattle.dav_upload.specs.Steps.{Began, Committed, HasClearNames, IsBeside, IsClear, Pieced}
+use Rattle.dav_upload.specs.Uploading.{Aborts, Begins, Commits, Sweeps, WritesPiece}
+
+module _ {S C F : Type 0} (view : View S C F) (writes : Writes F) (c : C) (test : S → Bool) where
+  -- A beginning, a piece and an abort leave what is shown, and a commit leaves it or makes its target a file of all
+  -- pieces. At Ok an upload that begins stands, and a commit was made; a piece keeps its upload standing.
+  pub record AreWhole : Type 0 where
+    pub begins : (s t : S) (v w : World) (target : WebPath) (fields : Fields) (token : ℕ)
+        (r : Result (Upload F) UploadError) → (view.state s).told ≡ Some v → (view.state t).told ≡ Some w
+        → test s ≡ true → is_linked v.tree (hidden_beside target token).names ≡ false
+        → Begins view c target fields token s r t → Began view.file.handle (view.state t).live r v w
+    pub pieces : (u x : Upload F) (s t : S) (v w : World) (bytes pieces : List ℕ) (r : Result Unit UploadError)
+        → (view.state s).told ≡ Some v → (view.state t).told ≡ Some w
+        → StandsIn (view.state s).live v u.hidden.names (view.file.handle u.file) u.broken pieces
+        → WritesPiece view writes u bytes s r t x → Pieced view.file.handle (view.state t).live x pieces bytes v w
+    pub commits : (u : Upload F) (s t : S) (v w : World) (pieces : List ℕ) (fields : Fields)
+        (r : Result Outcome UploadError) → (view.state s).told ≡ Some v → (view.state t).told ≡ Some w
+        → test s ≡ true → StandsIn (view.state s).live v u.hidden.names (view.file.handle u.file) u.broken pieces
+        → IsBeside u.target.names u.hidden.names → IsClear v u.target.names u.hidden.names
+        → Commits view c u fields s r t → Committed u.target.names u.broken pieces r v w
+    pub aborts : (u : Upload F) (s t : S) (v w : World) (pieces : List ℕ) (r : Result Unit UploadError)
+        → (view.state s).told ≡ Some v → (view.state t).told ≡ Some w → test s ≡ true
+        → StandsIn (view.state s).live v u.hidden.names (view.file.handle u.file) u.broken pieces
+        → is_linked v.tree u.hidden.names ≡ false → Aborts view c u s r t → SameShown v w
+
+  -- Each step leaves to others what they have: the bytes of each file but its own stay as long as somebody holds it,
+  -- what another handle has open stays open with its bytes, and each upload with another hidden path goes on standing.
+  pub record LeaveOthers : Type 0 where
+    pub begins : (s t : S) (v w : World) (target : WebPath) (fields : Fields) (token : ℕ)
+        (r : Result (Upload F) UploadError) → (view.state s).told ≡ Some v → (view.state t).told ≡ Some w
+        → test s ≡ true → is_linked v.tree (hidden_beside target token).names ≡ false
+        → Begins view c target fields token s r t
+        → LeavesOthers None (IsNot (hidden_beside target token).names) (view.state s).live (view.state t).live v w
+    pub pieces : (u x : Upload F) (s t : S) (v w : World) (bytes pieces : List ℕ) (r : Result Unit UploadError)
+        → (view.state s).told ≡ Some v → (view.state t).told ≡ Some w
+        → StandsIn (view.state s).live v u.hidden.names (view.file.handle u.file) u.broken pieces
+        → WritesPiece view writes u bytes s r t x
+        → LeavesOthers (Some (view.file.handle u.file)) (IsNot u.hidden.names) (view.state s).live (view.state t).live
+        v w
+    pub commits : (u : Upload F) (s t : S) (v w : World) (pieces : List ℕ) (fields : Fields)
+        (r : Result Outcome UploadError) → (view.state s).told ≡ Some v → (view.state t).told ≡ Some w
+        → test s ≡ true → StandsIn (view.state s).live v u.hidden.names (view.file.handle u.file) u.broken pieces
+        → IsBeside u.target.names u.hidden.names → IsClear v u.target.names u.hidden.names
+        → Commits view c u fields s r t
+        → LeavesOthers (Some (view.file.handle u.file)) (IsNot u.hidden.names) (view.state s).live (view.state t).live
+        v w
+    pub aborts : (u : Upload F) (s t : S) (v w : World) (pieces : List ℕ) (r : Result Unit UploadError)
+        → (view.state s).told ≡ Some v → (view.state t).told ≡ Some w → test s ≡ true
+        → StandsIn (view.state s).live v u.hidden.names (view.file.handle u.file) u.broken pieces
+        → is_linked v.tree u.hidden.names ≡ false → Aborts view c u s r t
+        → LeavesOthers (Some (view.file.handle u.file)) (IsNot u.hidden.names) (view.state s).live (view.state t).live
+        v w
+
+module _ {S C F L E : Type 0} (view : View S C F) (lists : Listings S C L E) (c : C) (test : S → Bool) where
+  -- A sweep leaves what is shown.
+  abbrev pub SweepsAreUnseen : Type 0
+  SweepsAreUnseen = (dir : WebPath) (s t : S) (v w : World) (r : Result ℕ UploadError)
+      → (view.state s).told ≡ Some v → (view.state t).told ≡ Some w → test s ≡ true → HasClearNames v dir.names
+      → Sweeps view lists c dir s r t → SameShown v w
+
+  -- A sweep leaves to others what they have at all but the hidden names of its directory.
+  abbrev pub SweepsLeaveOthers : Type 0
+  SweepsLeaveOthers = (dir : WebPath) (s t : S) (v w : World) (r : Result ℕ UploadError)
+      → (view.state s).told ≡ Some v → (view.state t).told ≡ Some w → test s ≡ true → HasClearNames v dir.names
+      → Sweeps view lists c dir s r t
+      → LeavesOthers None (IsNotHiddenIn dir.names) (view.state s).live (view.state t).live v w
