@@ -30,3 +30,4 @@ pub mod Gathered
 pub mod EntriesTold
 pub mod Fronts
 pub mod Walked
+pub mod LocalView

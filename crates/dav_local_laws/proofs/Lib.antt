@@ -27,3 +27,4 @@ pub mod LocalShows
 pub mod RuledMembers
 pub mod LocalSeals
 pub mod LocalDates
+pub mod LocalStore

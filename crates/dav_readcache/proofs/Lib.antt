@@ -5,7 +5,7 @@ pub mod Fronts
 pub mod Inside
 pub mod KeptOpen
 pub mod Leading
-pub mod LocalView
+pub mod LocalTold
 pub mod LocalWorlds
 pub mod Opened
 pub mod Orders

@@ -2,5 +2,4 @@ pub mod AlikeOpen
 pub mod BodiesSound
 pub mod Joined
 pub mod LocalAll
-pub mod LocalStore
 pub mod RuledCache

@@ -1,11 +1,12 @@
 use Rattle.std.proofs.Common.{inl, inr}
 use Rattle.dav_model.specs.Due.{query}
 use Rattle.dav_readcache.proofs.Leading.{reads_sound}
-use Rattle.dav_readcache.proofs.LocalView.{local_opens, local_there, local_view}
+use Rattle.dav_local.proofs.LocalView.{local_lists, local_view}
+use Rattle.dav_readcache.proofs.LocalTold.{local_opens, local_there}
 use Rattle.dav_readcache.proofs.Told.{local_files_told}
 use Rattle.dav_readcache_laws.proofs.BodiesSound.{given_held, given_sound, given_stands}
 use Rattle.dav_readcache_laws.proofs.Joined.{shows_for}
-use Rattle.dav_readcache_laws.proofs.LocalStore.{local_lists, local_store}
+use Rattle.dav_local_laws.proofs.LocalStore.{local_store}
 use Rattle.dav_readcache_laws.proofs.RuledCache.{cache_by_rules}
 use Rattle.dav_local_laws.proofs.LocalReads.{local_by_rules}
 use Rattle.dav_local_laws.proofs.RuledReads.{ruled_reads}

@@ -1,10 +1,11 @@
 use Rattle.dav_local_laws.specs.Simple.{opened}
-use Rattle.dav_readcache.proofs.LocalView.{local_there, local_view}
+use Rattle.dav_local.proofs.LocalView.{local_lists, local_view}
+use Rattle.dav_readcache.proofs.LocalTold.{local_there}
 use Rattle.dav_readcache.proofs.Told.{local_files_told}
 use Rattle.dav_readcache_laws.specs.Plain.{listed, looked}
 use Rattle.dav_readcache_laws.proofs.Joined.{shows_for}
 use Rattle.dav_readcache_laws.proofs.LocalAll.{shows_for_all}
-use Rattle.dav_readcache_laws.proofs.LocalStore.{local_lists, local_store}
+use Rattle.dav_local_laws.proofs.LocalStore.{local_store}
 use Rattle.dav_readcache_laws.proofs.local_stores_show_what_is_asked.Goals as goal
 
 pub returns : goal.returns

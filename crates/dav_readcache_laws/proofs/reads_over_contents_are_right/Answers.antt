@@ -1,5 +1,5 @@
-use Rattle.dav_readcache.proofs.LocalView.{local_view}
-use Rattle.dav_readcache_laws.proofs.LocalStore.{local_lists, local_store}
+use Rattle.dav_local.proofs.LocalView.{local_lists, local_view}
+use Rattle.dav_local_laws.proofs.LocalStore.{local_store}
 use Rattle.dav_readcache_laws.proofs.RuledCache.{cache_by_rules}
 use Rattle.dav_local_laws.proofs.LocalReads.{local_by_rules}
 use Rattle.dav_local_laws.proofs.RuledReads.{ruled_reads}

@@ -1,4 +1,4 @@
-use Rattle.dav_readcache.proofs.LocalView.{local_opens, local_there}
+use Rattle.dav_readcache.proofs.LocalTold.{local_opens, local_there}
 use Rattle.dav_readcache.proofs.laws.local_worlds_stay.Goals as goal
 
 pub returns : goal.returns

@@ -1,19 +1,20 @@
--- The local store's view of itself, as a value that lemmas can name, and what its disk tells through a reader's calls.
-use Rattle.std.specs.Prelude.{◌≡◌, true, false, Some, Option, refl}
+-- The local store by its view and its listings, as values that lemmas can name.
+use Rattle.std.specs.Prelude.{◌≡◌, true, false, Some, Option}
 use Rattle.std.specs.Borrow.{GName}
-use Rattle.dav_core.specs.DavPath.{WebPath}
 use Rattle.dav_core.specs.Disk.{DiskState}
-use Rattle.dav_core.specs.World.{World}
+use Rattle.dav_core.specs.Listing.{EndsListing}
 use Rattle.dav_cache.specs.Memory.{MemoryState}
-use Rattle.dav_store.specs.View.{View}
+use Rattle.dav_store.specs.View.{Listings, View}
+use Rattle.dav_local.specs.declared.entry.LocalFsDirEntry.{LocalFsDirEntry}
 use Rattle.dav_local.specs.declared.file.LocalFsFile.{LocalFsFile}
 use Rattle.dav_local.specs.declared.fs.LocalFs.{LocalFs}
-use Rattle.dav_local.specs.Calls.{AsksToCopy, AsksToMake, AsksToMove, AsksToTakeDir, AsksToTakeFile, IsOpening, Looks}
+use Rattle.dav_local.specs.declared.gathering.LocalFsReadDir.{LocalFsReadDir}
+use Rattle.dav_local.specs.Calls.{AsksToCopy, AsksToMake, AsksToMove, AsksToTakeDir, AsksToTakeFile, BeginsAt, Finds, IsOpening, Looks}
+use Rattle.dav_local.specs.Entries.{Says}
+use Rattle.dav_local.specs.Gathering.{GivesNext, dir_to_come}
 use Rattle.dav_local.specs.LocalFiles.{local_file}
 use Rattle.dav_local.specs.Places.{Place, Stays, place_of}
-use Rattle.dav_local.specs.Saving.{SavesLook, SavesOpen}
-use Rattle.dav_readcache.specs.Sound.{IsWorldThere, OpensTold}
-use Rattle.dav_readcache.proofs.LocalWorlds.{opens_told, world_there}
+use Rattle.dav_local.specs.Saving.{SavesDir, SavesLook, SavesOpen}
 
 module _ {D R : Type 0} (state : D → DiskState) (loan : D → Option GName) (memory : R → MemoryState) where
   abbrev pub at : LocalFs D R → Place
@@ -36,8 +37,14 @@ module _ {D R : Type 0} (state : D → DiskState) (loan : D → Option GName) (m
     file = local_file;
   }
 
-  pub local_there : (s : LocalFs D R) (w : World) (path : WebPath) → (state s.disk).told ≡ Some w → IsWorldThere local_view s tt path w
-  local_there s w path told = world_there local_view at (λ s. refl) (λ file s. refl) (λ s t x path r h. h.0) (λ s t x path r h. h.0) (λ s t x path r h. h.0) s tt w path told
-
-  pub local_opens : (s : LocalFs D R) (w : World) (path : WebPath) → (state s.disk).told ≡ Some w → OpensTold local_view s tt path w
-  local_opens s w path told = opens_told local_view at (λ s. refl) (λ file s. refl) (λ s t x path r h. h.0) (λ s t x path r h. h.0) (λ s t x path r h. h.0) s tt w path told
+  abbrev pub local_lists : Listings (LocalFs D R) Unit LocalFsReadDir LocalFsDirEntry
+  local_lists = record {
+    lister = λ d. Some d.reading.lister.0;
+    to_come = dir_to_come;
+    lists = λ s _ path wanted result t. Finds (at s) path.names (BeginsAt wanted) result (at t) × Stays s t
+        × SavesDir (at s) path result (at t);
+    lists_on = λ s d result t e. GivesNext s.moment (at s) d result (at t) e × Stays s t;
+    ends_list = λ s d t. EndsListing (state s.disk) d.reading.lister.0 (state t.disk) × (t ≡ record s { disk = t.disk });
+    called = λ e. e.name;
+    says = λ e s result t. Says e.meta s result t;
+  }
