@@ -7,4 +7,4 @@ mod storing;
 
 pub use local::perform_local;
 pub use running::{Ending, Task, perform, task_said};
-pub use storing::{Stop, store};
+pub use storing::{Destination, Stop, store};

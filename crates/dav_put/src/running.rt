@@ -14,7 +14,7 @@ ghost use Rattle.dav_upload.specs.Shown.{SameShown};
 ghost use Rattle.dav_upload.specs.Steps.{HasClearNames};
 ghost use Rattle.dav_upload.specs.Takes.{ReadsPlainly, TakesUploads};
 
-use crate::storing::{Stop, store};
+use crate::storing::{Destination, Stop, store};
 use dav_core::{DavError, DavPath, FsError, ParseError};
 use dav_io::Source;
 use dav_store::{DavFile, GuardedFileSystem};
@@ -147,7 +147,12 @@ fn store_at<S: GuardedFileSystem<C>, C, R: Source>(
         return Ending::Refused(405);
     }
     let fields = HeaderMap::new(alloc);
-    match store(alloc, fs, credentials, path, &fields, source, buffer, token) {
+    let destination = Destination {
+        path,
+        fields: &fields,
+        token,
+    };
+    match store(alloc, fs, credentials, &destination, source, buffer) {
         Ok(_outcome) => Ending::Done,
         Err(Stop::SourceFailed) => Ending::SourceFailed,
         Err(Stop::TooMuch) => Ending::SourceFailed,

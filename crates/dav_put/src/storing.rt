@@ -29,6 +29,15 @@ pub enum Stop {
     Refused(UploadError),
 }
 
+/// Where an input is stored: at a path, as a PUT with these fields may, and with a hidden name of this token, or of those
+/// behind it.
+#[derive(Drop)]
+pub struct Destination<'a> {
+    pub path: &'a DavPath,
+    pub fields: &'a HeaderMap,
+    pub token: u64,
+}
+
 // Whether the hidden name of a token stands already.
 fn is_busy(error: &UploadError) -> bool
     ensures { result ≡ the_is_busy error.now }
@@ -126,17 +135,24 @@ fn store_by<S: GuardedFileSystem<C>, C, R: Source>(
     alloc: Global,
     fs: &mut S,
     credentials: &C,
-    path: &DavPath,
-    fields: &HeaderMap,
+    destination: &Destination<'_>,
     source: &mut R,
     buffer: &mut [u8],
-    token: u64,
 ) -> Result<Outcome, Stop>
     requires room { 0 < length buffer.old }
-    ensures table { Stores S.view S.File.view.writes credentials.now path.now fields.now token fs.old (R.stream source.old) result
-        fs.new (R.stream source.new) }
+    ensures table { Stores S.view S.File.view.writes credentials.now destination.now.path.now
+        destination.now.fields.now destination.now.token fs.old (R.stream source.old) result fs.new
+        (R.stream source.new) }
 {
-    match begin_some(alloc, fs, credentials, path, fields, token) {
+    let fields = destination.fields;
+    match begin_some(
+        alloc,
+        fs,
+        credentials,
+        destination.path,
+        fields,
+        destination.token,
+    ) {
         Ok(mut upload) => {
             let poured = pour(fs, &mut upload, source, buffer);
             finish(alloc, fs, credentials, upload, fields, poured)
@@ -155,20 +171,19 @@ pub fn store<S: GuardedFileSystem<C>, C, R: Source>(
     alloc: Global,
     fs: &mut S,
     credentials: &C,
-    path: &DavPath,
-    fields: &HeaderMap,
+    destination: &Destination<'_>,
     source: &mut R,
     buffer: &mut [u8],
-    token: u64,
 ) -> Result<Outcome, Stop>
     requires room { 0 < length buffer.old }
-    requires named { path.now.names ≢ [] }
-    ensures table { Stores S.view S.File.view.writes credentials.now path.now fields.now token fs.old (R.stream source.old) result fs.new
+    requires named { destination.now.path.now.names ≢ [] }
+    ensures table { Stores S.view S.File.view.writes credentials.now destination.now.path.now
+        destination.now.fields.now destination.now.token fs.old (R.stream source.old) result fs.new
         (R.stream source.new) }
     ensures whole { (test : S → Bool) → TakesUploads S.view S.File.view.writes credentials.now test → test fs.old ≡ true
         → (v w : World) (bytes : List ℕ) → (S.view.state fs.old).told ≡ Some v → (S.view.state fs.new).told ≡ Some w
-        → (R.stream source.old).bytes ≡ Some bytes → IsOpenTo v path.now.names
-        → StoredWhole path.now.names bytes result v w }
+        → (R.stream source.old).bytes ≡ Some bytes → IsOpenTo v destination.now.path.now.names
+        → StoredWhole destination.now.path.now.names bytes result v w }
 {
-    store_by(alloc, fs, credentials, path, fields, source, buffer, token)
+    store_by(alloc, fs, credentials, destination, source, buffer)
 }

@@ -48,22 +48,30 @@ fn play_on<'a, D: Disk, B: Book, W: Wait>(
     Ok(())
 }
 
+// How sessions find paths: by which rules, and over which caches.
+#[derive(Drop)]
+struct Ways<'a, B: Book> {
+    fold: bool,
+    macos: bool,
+    cache: &'a SharedCache<B>,
+}
+
 // A player over the disk from its root on and the shared caches, by these settings. It gave no reply yet, and makes
 // nothing that is open to everybody.
 fn player_over<'a, D: Disk, B: Book, W: Wait>(
     rt: &'a W,
     alloc: Global,
     settings: Settings,
-    fold: bool,
-    macos: bool,
-    cache: &'a SharedCache<B>,
+    ways: &Ways<'a, B>,
     disk: D,
 ) -> Player<D, Sharing<'a, B, W>>
     ensures loan { D.loan result.store.disk ≡ D.loan disk }
     ensures public { result.store.public ≡ false }
-    ensures stage { stage_of result ≡ ready (B.names cache.now.folder) (rules_of settings fold macos) (D.state disk) }
+    ensures stage { stage_of result ≡ ready (B.names ways.now.cache.now.folder)
+        (rules_of settings ways.now.fold ways.now.macos) (D.state disk) }
 {
-    let store = LocalFs::new(disk, Sharing::new(rt, cache), false, fold, macos);
+    let memory = Sharing::new(rt, ways.cache);
+    let store = LocalFs::new(disk, memory, false, ways.fold, ways.macos);
     Player::over(alloc, settings, store)
 }
 
@@ -71,21 +79,20 @@ fn player_over<'a, D: Disk, B: Book, W: Wait>(
 fn play_by<D: Disk, B: Book, W: Wait>(
     rt: &W,
     settings: Settings,
-    fold: bool,
-    macos: bool,
-    cache: &SharedCache<B>,
+    ways: &Ways<'_, B>,
     disk: &mut D,
     steps: &[Step],
     answers: &mut Vec<Answer>,
 ) -> Result<(), NoMemory>
     requires room { length steps.now < 2 ^ 32 }
-    requires may { MayShare (B.names cache.now.folder) (rules_of settings fold macos) (D.state disk.old) steps.now }
-    ensures { PlaysFrom (B.names cache.now.folder) (rules_of settings fold macos) (D.state disk.old) steps.now
-        answers.old.items result answers.new.items (D.state disk.new) }
+    requires may { MayShare (B.names ways.now.cache.now.folder) (rules_of settings ways.now.fold ways.now.macos)
+        (D.state disk.old) steps.now }
+    ensures { PlaysFrom (B.names ways.now.cache.now.folder) (rules_of settings ways.now.fold ways.now.macos)
+        (D.state disk.old) steps.now answers.old.items result answers.new.items (D.state disk.new) }
 {
     let alloc = *answers.allocator();
-    let mut player = player_over(rt, alloc, settings, fold, macos, cache, &mut *disk);
-    let outcome = play_on(rt, cache, &mut player, steps, answers);
+    let mut player = player_over(rt, alloc, settings, ways, &mut *disk);
+    let outcome = play_on(rt, ways.cache, &mut player, steps, answers);
     let mut memory = None;
     let _ = player.into_disk(&mut memory);
     outcome
@@ -96,16 +103,14 @@ fn play_session<D: Disk, B: Book, W: Wait>(
     rt: &W,
     alloc: Global,
     settings: &Settings,
-    fold: bool,
-    macos: bool,
-    cache: &SharedCache<B>,
+    ways: &Ways<'_, B>,
     session: &mut Session<D>,
 )
     requires room { length session.old.steps < 2 ^ 32 }
-    requires may { MayShare (B.names cache.now.folder) (rules_of settings.now fold macos) (D.state session.old.disk)
-        session.old.steps }
-    ensures { Plays (B.names cache.now.folder) (rules_of settings.now fold macos) (own_of D.state session.old)
-        session.new.outcome (own_of D.state session.new) }
+    requires may { MayShare (B.names ways.now.cache.now.folder) (rules_of settings.now ways.now.fold ways.now.macos)
+        (D.state session.old.disk) session.old.steps }
+    ensures { Plays (B.names ways.now.cache.now.folder) (rules_of settings.now ways.now.fold ways.now.macos)
+        (own_of D.state session.old) session.new.outcome (own_of D.state session.new) }
 {
     let Session {
         disk,
@@ -122,7 +127,7 @@ fn play_session<D: Disk, B: Book, W: Wait>(
         Ok(settings) => {
             let held = mem::replace(answers, AnswerList::empty(alloc));
             let mut given = held.into_vec();
-            *outcome = play_by(rt, settings, fold, macos, cache, disk, steps, &mut given);
+            *outcome = play_by(rt, settings, ways, disk, steps, &mut given);
             *answers = AnswerList::new(given);
         }
         Err(error) => *outcome = Err(error),
@@ -153,12 +158,14 @@ pub fn play_sessions<W: Threads + Wait + Sync, D: Disk + Send, B: Book + Send + 
         return;
     }
     let count = sessions.len();
+    let ways = &Ways { fold, macos, cache };
     let play = |_i: usize, session: &mut Session<D>|
         requires room { length session.now.steps < 2 ^ 32 }
-        requires may { MayShare (B.names cache.now.folder) (rules_of settings.now fold macos)
+        requires may { MayShare (B.names ways.now.cache.now.folder) (rules_of settings.now ways.now.fold ways.now.macos)
             (D.state session.now.disk) session.now.steps }
-        ensures { Plays (B.names cache.entry.now.folder) (rules_of settings.entry.now fold macos)
+        ensures { Plays (B.names ways.entry.now.cache.now.folder)
+            (rules_of settings.entry.now ways.entry.now.fold ways.entry.now.macos)
             (own_of D.state session.entry.now) session.exit.now.outcome (own_of D.state session.exit.now) }
-    { play_session(rt, alloc, settings, fold, macos, cache, session) };
+    { play_session(rt, alloc, settings, ways, session) };
     thread::for_each_mut(rt, sessions, count, &play);
 }

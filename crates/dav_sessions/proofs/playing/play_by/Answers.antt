@@ -13,7 +13,7 @@ play_on-outcome-requires-clause-knows g c = ap (λ (b : Stage). b.playing.knows)
 
 pub play_on-outcome-requires-clause-may : goal.play_on-outcome-requires-clause-may
 play_on-outcome-requires-clause-may g c =
-    subst (λ (b : Stage). MayShare (g.B.Book.names c.args.cache.now.folder) b.playing.rules b.at c.args.steps.now) (sym c.player_over-player.ensures.stage) c.requires.may
+    subst (λ (b : Stage). MayShare (g.B.Book.names c.args.ways.now.cache.now.folder) b.playing.rules b.at c.args.steps.now) (sym c.player_over-player.ensures.stage) c.requires.may
 
 pub returns : goal.returns
 returns g c = (

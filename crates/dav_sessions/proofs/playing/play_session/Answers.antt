@@ -20,6 +20,6 @@ returns-in-Err g c = record {
 pub returns-in-Ok : goal.returns-in-Ok
 returns-in-Ok g c = record {
   steps = refl;
-  played = plays_by _ _ _ _ _ _ _ _ _ _ _ _ (ap (λ (s : Settings). rules_of s c.args.fold c.args.macos) c.in-Ok.ensures) c.as_slice-steps.ensures
+  played = plays_by _ _ _ _ _ _ _ _ _ _ _ _ (ap (λ (s : Settings). rules_of s c.args.ways.now.fold c.args.ways.now.macos) c.in-Ok.ensures) c.as_slice-steps.ensures
       (c.into_vec-given.ensures ∙ c.replace-held.ensures.value) c.new.ensures c.play_by.ensures;
 }
