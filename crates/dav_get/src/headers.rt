@@ -146,13 +146,21 @@ fn add_range(alloc: Global, fields: &mut Vec<Field>, len: u64, sent: &Sent) -> R
         Sent::Unsatisfied => {
             let mut text = Vec::from_slice(alloc, b"bytes */")?;
             push_number(&mut text, len)?;
-            push(fields, FieldName::ContentRange, FieldValue::new(Octets::new(text)))
+            push(
+                fields,
+                FieldName::ContentRange,
+                FieldValue::new(Octets::new(text)),
+            )
         }
         Sent::One(part) => {
             let mut text = Vec::with_capacity(alloc, MOST_RANGE)?;
             text.extend_from_slice(b"bytes ")?;
             push_span(&mut text, len, part)?;
-            push(fields, FieldName::ContentRange, FieldValue::new(Octets::new(text)))
+            push(
+                fields,
+                FieldName::ContentRange,
+                FieldValue::new(Octets::new(text)),
+            )
         }
     }
 }

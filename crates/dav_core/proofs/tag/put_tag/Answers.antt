@@ -13,12 +13,12 @@ returns-clause-tag c =
     let none = none_behind 52 c.args.into.now (search rules) in
     let last = c.put_part-at.ensures.part ∙ ap (λ n. 45 ∷ (hex n ++ drop c.put_byte-at.result c.put_byte-at.new.into)) c.micros.ensures in
     elim c.match-meta.branch [
-      in-File w ↦ three_quoted _ _ _ _ _ _ _ _ _ none c.put_byte-at.ensures.put last w.put_part-at-in-File.ensures.part
-        (c.put_digits-at.ensures.digits ∙ (λ i. hex number ++ drop (w.at-is i) (w.into-is i))) c.put_byte.ensures.put
-        ∙ ap (λ k. quoted (tag_at k number len time)) (sym w.in-File.is)
-    | in-Dir w ↦
-        let pair = two_quoted _ _ _ _ _ _ _ none c.put_byte-at.ensures.put last
-            (c.put_digits-at.ensures.digits ∙ (λ i. hex number ++ drop (w.at-is i) (w.into-is i))) c.put_byte.ensures.put in
-        ⊎_elim (λ is. pair ∙ ap (λ k. quoted (tag_at k number len time)) (sym is))
-            (λ is. pair ∙ ap (λ k. quoted (tag_at k number len time)) (sym is)) w.in-Dir.is
+      | in-File w ↦ three_quoted _ _ _ _ _ _ _ _ _ none c.put_byte-at.ensures.put last w.put_part-at-in-File.ensures.part
+          (c.put_digits-at.ensures.digits ∙ (λ i. hex number ++ drop (w.at-is i) (w.into-is i))) c.put_byte.ensures.put
+          ∙ ap (λ k. quoted (tag_at k number len time)) (sym w.in-File.is)
+      | in-Dir w ↦
+          let pair = two_quoted _ _ _ _ _ _ _ none c.put_byte-at.ensures.put last
+          (c.put_digits-at.ensures.digits ∙ (λ i. hex number ++ drop (w.at-is i) (w.into-is i))) c.put_byte.ensures.put in
+          ⊎_elim (λ is. pair ∙ ap (λ k. quoted (tag_at k number len time)) (sym is))
+          (λ is. pair ∙ ap (λ k. quoted (tag_at k number len time)) (sym is)) w.in-Dir.is
     ]
