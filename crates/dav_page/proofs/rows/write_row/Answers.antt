@@ -13,12 +13,12 @@ returns c =
     let m = c.args.member.now in
     let date = c.in_ok-push_date.ensures in
     let texts : RowTexts =
-      record {
-        link = c.args.below.now ++ (link_of m.name ++ final_slash (is_dir m.kind));
-        name = name_text (shown_name m);
-        date = date.0;
-        size = size_of m;
-      } in
+    record {
+      link = c.args.below.now ++ (link_of m.name ++ final_slash (is_dir m.kind));
+      name = name_text (shown_name m);
+      date = date.0;
+      size = size_of m;
+    } in
     record {
       texts = texts;
       link = refl;
@@ -28,11 +28,11 @@ returns c =
       size = refl;
       fits = c.in_ok-push_size_of.ensures.form;
       spells =
-        row_made texts (string_bytes c.clear.new.self) (string_bytes c.push_str.new.self) (string_bytes c.push_link_below.new.row)
-        (string_bytes c.push_str-2.new.self) (string_bytes c.push_name.new.row) (string_bytes c.push_str-3.new.self)
-        (string_bytes c.push_date.new.text) (string_bytes c.push_str-4.new.self) (string_bytes c.push_size_of.new.text)
-        (string_bytes c.push_str-5.new.self) c.clear.ensures.bytes c.in_ok-push_str.ensures.bytes c.in_ok-push_link_below.ensures
-        c.in_ok-push_str-2.ensures.bytes c.in_ok-push_name.ensures.text c.in_ok-push_str-3.ensures.bytes date.1
-        c.in_ok-push_str-4.ensures.bytes c.in_ok-push_size_of.ensures.value c.in_ok-push_str-5.ensures.bytes;
+          row_made texts (string_bytes c.clear.new.self) (string_bytes c.push_str.new.self) (string_bytes c.push_link_below.new.row)
+          (string_bytes c.push_str-2.new.self) (string_bytes c.push_name.new.row) (string_bytes c.push_str-3.new.self)
+          (string_bytes c.push_date.new.text) (string_bytes c.push_str-4.new.self) (string_bytes c.push_size_of.new.text)
+          (string_bytes c.push_str-5.new.self) c.clear.ensures.bytes c.in_ok-push_str.ensures.bytes c.in_ok-push_link_below.ensures
+          c.in_ok-push_str-2.ensures.bytes c.in_ok-push_name.ensures.text c.in_ok-push_str-3.ensures.bytes date.1
+          c.in_ok-push_str-4.ensures.bytes c.in_ok-push_size_of.ensures.value c.in_ok-push_str-5.ensures.bytes;
       utf8 = IsUtf8-string_bytes c.push_str-5.new.self;
     }
