@@ -12,6 +12,9 @@ use std::alloc::Global;
 // The most bytes of the text of a tag between its quotes: three numbers of at most 16 digits, and two dashes.
 const MOST_TAG: usize = 52;
 
+// The digits of numbers below 16.
+const DIGITS: &[u8; 16] = b"0123456789abcdef";
+
 // Whole microseconds since 1970.
 fn micros(time: FileTime) -> u64
     requires { is_in_years time.secs ≡ true }
@@ -37,11 +40,7 @@ fn digit(n: u64) -> u8
     requires { n < 16 }
     ensures { result ≡ digit_glyph false n }
 {
-    if n < 10 {
-        b'0' + n as u8
-    } else {
-        b'a' + (n - 10) as u8
-    }
+    DIGITS[n as usize]
 }
 
 // Writes a byte right before an end, and answers where it stands.
