@@ -139,24 +139,46 @@ pub some_left : (at n : ℕ) → n < 16 ^ suc at → 16 ≤ n → 0 < at
 some_left zero n h large = absurd (omega arith)
 some_left (suc at) n h large = omega arith
 
-pub one_fewer : (at n : ℕ) → n < 16 ^ suc at → 16 ≤ n → n / 16 < 16 ^ suc (at - 1)
-one_fewer zero n h large = absurd (omega arith)
-one_fewer (suc at) n h large =
-    let same : suc at - 1 ≡ at = omega arith in
-    rw same (omega (arith, h, pow-suc 16 (suc at)))
+pub one_fewer : (at less n : ℕ) → n < 16 ^ suc at → at ≡ suc less → n / 16 < 16 ^ suc less
+one_fewer at less n h e =
+    let more : n < 16 ^ suc (suc less) = rw (sym e) h in
+    omega (arith, more, pow-suc 16 (suc less))
 
--- the last digit is written
-pub first_written : (n : ℕ) (into : List ℕ) (d : ℕ) → length into ≡ 16 → n < 2 ^ 64 → d ≡ last_digit n → hex n ≡ front n ++ drop 15 (slice_set into 15 d)
-first_written n into d len small same =
-    let written : drop 15 (slice_set into 15 d) ≡ d ∷ drop 16 into = drop-set_at into 15 15 d refl (omega arith) in
-    let none : drop 16 into ≡ [] = grind (arith, common_steps) in
-    front_last n small ∙ ap (λ x. front n ++ x) (ap (λ b. b ∷ []) (sym same) ∙ sym (written ∙ ap (λ x. d ∷ x) none))
+-- sixteen places are left at first
+pub few_at_first : (end n : ℕ) → 0 < end → n < 2 ^ 64 → n < 16 ^ suc (end - 1 + 16 - end)
+few_at_first end n some small =
+    let same : end - 1 + 16 - end ≡ 15 = omega arith in
+    rw same (omega arith)
+
+-- the last digit is written, right before an end
+pub first_written : (end n : ℕ) (into : List ℕ) (d : ℕ) → 0 < end → end ≤ length into → n < 2 ^ 64 → d ≡ last_digit n
+    → hex n ++ drop end into ≡ front n ++ drop (end - 1) (slice_set into (end - 1) d)
+first_written end n into d some within small same =
+    let written : drop (end - 1) (slice_set into (end - 1) d) ≡ d ∷ drop (end - 1 + 1) into = drop-set_at into (end - 1) (end - 1) d refl (omega arith) in
+    let next : end - 1 + 1 ≡ end = omega arith in
+    ap (λ x. x ++ drop end into) (front_last n small) ∙ append_assoc (front n) (last_digit n ∷ []) (drop end into)
+    ∙ ap (λ x. front n ++ x) (ap (λ b. b ∷ drop end into) (sym same) ∙ sym (written ∙ ap (λ k. d ∷ drop k into) next))
 
 -- the digit before those that are written
-pub next_written : (at n : ℕ) (digits into : List ℕ) (d : ℕ) → length into ≡ 16 → 0 < at → at < 16 → 16 ≤ n → n < 2 ^ 64 → digits ≡ front n ++ drop at into
+pub next_written : (at n : ℕ) (digits into : List ℕ) (d : ℕ) → 0 < at → at ≤ length into → 16 ≤ n → n < 2 ^ 64 → digits ≡ front n ++ drop at into
     → d ≡ last_digit (n / 16) → digits ≡ front (n / 16) ++ drop (at - 1) (slice_set into (at - 1) d)
-next_written at n digits into d len some within large small e same =
+next_written at n digits into d some within large small e same =
     let written : drop (at - 1) (slice_set into (at - 1) d) ≡ d ∷ drop (at - 1 + 1) into = drop-set_at into (at - 1) (at - 1) d refl (omega arith) in
     let next : at - 1 + 1 ≡ at = omega arith in
     front_moves n digits (drop at into) large small e
     ∙ ap (λ x. front (n / 16) ++ x) (ap (λ b. b ∷ drop at into) (sym same) ∙ sym (written ∙ ap (λ k. d ∷ drop k into) next))
+
+-- texts between quotes, from their ends on
+
+pub none_behind : (n : ℕ) (into : List ℕ) → length into ≡ n → drop n into ≡ []
+none_behind n into len = grind (arith, common_steps)
+
+pub two_quoted : (n m old a b c d : List ℕ) → old ≡ [] → a ≡ 34 ∷ old → b ≡ 45 ∷ (m ++ a) → c ≡ n ++ b → d ≡ 34 ∷ c → d ≡ 34 ∷ ((n ++ 45 ∷ m) ++ 34 ∷ [])
+two_quoted n m old a b c d none p q r s =
+    s ∙ ap (λ x. 34 ∷ x) (r ∙ ap (λ x. n ++ x) (q ∙ ap (λ x. 45 ∷ (m ++ x)) (p ∙ ap (λ x. 34 ∷ x) none)) ∙ sym (append_assoc n (45 ∷ m) (34 ∷ [])))
+
+pub three_quoted : (n k m old a b c d e : List ℕ) → old ≡ [] → a ≡ 34 ∷ old → b ≡ 45 ∷ (m ++ a) → c ≡ 45 ∷ (k ++ b) → d ≡ n ++ c → e ≡ 34 ∷ d
+    → e ≡ 34 ∷ ((n ++ 45 ∷ (k ++ 45 ∷ m)) ++ 34 ∷ [])
+three_quoted n k m old a b c d e none p q r s t =
+    t ∙ ap (λ x. 34 ∷ x) (s ∙ ap (λ x. n ++ x) (r ∙ ap (λ x. 45 ∷ (k ++ x)) (q ∙ ap (λ x. 45 ∷ (m ++ x)) (p ∙ ap (λ x. 34 ∷ x) none))
+    ∙ ap (λ x. 45 ∷ x) (sym (append_assoc k (45 ∷ m) (34 ∷ [])))) ∙ sym (append_assoc n (45 ∷ (k ++ 45 ∷ m)) (34 ∷ [])))

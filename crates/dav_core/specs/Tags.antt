@@ -26,10 +26,13 @@ abbrev pub HasTagBytes : Option (List ℕ) → Type 0
 HasTagBytes None = Unit {0}
 HasTagBytes (Some text) = IsTagText text
 
--- Behind the bytes before there is the text of a tag, where there is one, and that is told.
-abbrev pub AppendsTag : Option (List ℕ) → List ℕ → List ℕ → Bool → Type 0
-AppendsTag None before after there = (there ≡ false) × (after ≡ before)
-AppendsTag (Some text) before after there = (there ≡ true) × (after ≡ before ++ text)
+-- the text of a tag between quotes
+abbrev pub quoted : List ℕ → List ℕ
+quoted tag = 34 ∷ (tag ++ 34 ∷ [])
+
+abbrev pub quoted_where : Option (List ℕ) → Option (List ℕ)
+quoted_where None = None
+quoted_where (Some tag) = Some (quoted tag)
 
 -- a tag as a field writes it
 abbrev pub spelled : ETag → List ℕ

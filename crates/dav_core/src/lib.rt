@@ -55,4 +55,4 @@ pub use path::FsPath;
 pub use plain_name::is_plain;
 pub use time::FileTime;
 pub use tree::{Kind, Row, Tree, has_dir, row_at};
-pub use url::link_of;
+pub use url::{link_of, push_link};

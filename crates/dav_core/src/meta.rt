@@ -4,12 +4,12 @@ ghost use Rattle.dav_core.specs.Info.{AreInYears, Info, said, info_of, known as 
 ghost use Rattle.dav_core.specs.InfoInYears.{info_in_years};
 ghost use Rattle.dav_core.specs.Path.{Names};
 ghost use Rattle.dav_core.specs.TagBytes.{info_has_tag_bytes};
-ghost use Rattle.dav_core.specs.Tags.{AppendsTag, HasTagBytes};
+ghost use Rattle.dav_core.specs.Tags.{HasTagBytes, quoted_where};
 ghost use Rattle.dav_core.specs.Tree.{is_dir as is_dir_kind, is_file as is_file_kind, is_link as is_link_kind};
 
-use crate::tag::{has_text, push_text, tag_text};
+use crate::tag::{has_text, quoted_tag, tag_text};
 use crate::{DavPath, FileTime, FsError, FsPath, Kind, Meta};
-use dav_io::{NoMemory, Text};
+use dav_io::{FieldValue, NoMemory, Text};
 use std::alloc::Global;
 
 /// Metadata of what stands at a path.
@@ -66,9 +66,9 @@ pub trait DavMetaData {
     fn etag(&self, alloc: Global) -> Result<Option<Text>, NoMemory>
         ensures { IfOk result (λ tag. tag ≡ (info self.now).tag) };
 
-    /// Appends the text of its entity tag, and answers whether it has one.
-    fn push_tag(&self, text: &mut Vec<u8>) -> Result<bool, NoMemory>
-        ensures { IfOk result (AppendsTag (info self.now).tag text.old.items text.new.items) };
+    /// The text of its entity tag between quotes, as a field's value.
+    fn tag_value(&self, alloc: Global) -> Result<Option<FieldValue>, NoMemory>
+        ensures { IfOk result (λ value. value ≡ quoted_where (info self.now).tag) };
 
     /// Whether this is the text of its entity tag. It takes no memory.
     fn has_tag(&self, tag: &[u8]) -> bool
@@ -185,13 +185,10 @@ impl DavMetaData for Meta {
         }
     }
 
-    fn push_tag(&self, text: &mut Vec<u8>) -> Result<bool, NoMemory> {
+    fn tag_value(&self, alloc: Global) -> Result<Option<FieldValue>, NoMemory> {
         match known(self.modified) {
-            Some(time) => {
-                push_text(text, self, time)?;
-                Ok(true)
-            }
-            None => Ok(false),
+            Some(time) => Ok(Some(quoted_tag(alloc, self, time)?)),
+            None => Ok(None),
         }
     }
 

@@ -1,15 +1,19 @@
-// The text of the entity tag of a disk's metadata: written where memory is had, compared where none is.
-ghost use Rattle.std.specs.Prelude.{◌≡◌, ◌↔◌, ◌++◌, ◌<◌, ◌≤◌, true, false, IfOk, IsTrue, MatchOption, OnOk, codes, drop, length};
+// The text of the entity tag of a disk's metadata: as a text, as a field's value, and compared without either.
+ghost use Rattle.std.specs.Prelude.{◌≡◌, ◌↔◌, ◌++◌, ◌∷◌, ◌+◌, ◌<◌, ◌≤◌, true, false, IfOk, IsTrue, MatchOption, codes, drop};
 ghost use Rattle.std.specs.Fmt.{digit_glyph};
 ghost use Rattle.dav_core.specs.Grammar.{EndsOtherwise};
 ghost use Rattle.dav_core.specs.Info.{hex, micros as the_micros, tag_at, is_in_years};
+ghost use Rattle.dav_core.specs.Tags.{quoted};
 
 use crate::{FileTime, Kind, Meta};
-use dav_io::{NoMemory, Text};
+use dav_io::{FieldValue, NoMemory, Text};
 use std::alloc::Global;
 
-// The most digits of a number of 64 bits.
-const MOST_DIGITS: usize = 16;
+// The most bytes of the text of a tag between its quotes: three numbers of at most 16 digits, and two dashes.
+const MOST_TAG: usize = 52;
+
+// The digits of numbers below 16.
+const DIGITS: &[u8; 16] = b"0123456789abcdef";
 
 // Whole microseconds since 1970.
 fn micros(time: FileTime) -> u64
@@ -36,19 +40,29 @@ fn digit(n: u64) -> u8
     requires { n < 16 }
     ensures { result ≡ digit_glyph false n }
 {
-    if n < 10 {
-        b'0' + n as u8
-    } else {
-        b'a' + (n - 10) as u8
-    }
+    DIGITS[n as usize]
 }
 
-// Writes the digits of a number at the end of an array, and answers where they begin.
-fn put_digits(into: &mut [u8; MOST_DIGITS], number: u64) -> usize
-    ensures begins { result ≤ 16 }
-    ensures digits { drop result into.new ≡ hex number }
+// Writes a byte right before an end, and answers where it stands.
+fn put_byte(into: &mut [u8; MOST_TAG], end: usize, byte: u8) -> usize
+    requires some { 0 < end }
+    requires within { end ≤ 52 }
+    ensures at { result + 1 ≡ end }
+    ensures put { drop result into.new ≡ byte ∷ drop end into.old }
 {
-    let mut at = MOST_DIGITS - 1;
+    into[end - 1] = byte;
+    end - 1
+}
+
+// Writes the digits of a number right before an end, and answers where they begin.
+fn put_digits(into: &mut [u8; MOST_TAG], end: usize, number: u64) -> usize
+    requires room { 16 ≤ end }
+    requires within { end ≤ 52 }
+    ensures some { result < end }
+    ensures few { end ≤ result + 16 }
+    ensures digits { drop result into.new ≡ hex number ++ drop end into.old }
+{
+    let mut at = end - 1;
     let mut rest = number;
     into[at] = digit(rest % 16);
     while rest >= 16 {
@@ -59,35 +73,43 @@ fn put_digits(into: &mut [u8; MOST_DIGITS], number: u64) -> usize
     at
 }
 
-// Appends the digits of a number.
-fn push_digits(text: &mut Vec<u8>, number: u64) -> Result<(), NoMemory>
-    ensures { OnOk result (text.new.items ≡ text.old.items ++ hex number) }
+// Writes a dash and the digits of a number right before an end, and answers where the dash stands.
+fn put_part(into: &mut [u8; MOST_TAG], end: usize, number: u64) -> usize
+    requires room { 17 ≤ end }
+    requires within { end ≤ 52 }
+    ensures some { result < end }
+    ensures few { end ≤ result + 17 }
+    ensures part { drop result into.new ≡ codes "-" ++ (hex number ++ drop end into.old) }
 {
-    let mut digits = [0; MOST_DIGITS];
-    let at = put_digits(&mut digits, number);
-    text.extend_from_slice(&digits[at..])?;
-    Ok(())
+    let at = put_digits(into, end, number);
+    put_byte(into, at, b'-')
 }
 
-// Appends a dash and the digits of a number.
-fn push_part(text: &mut Vec<u8>, number: u64) -> Result<(), NoMemory>
-    ensures { OnOk result (text.new.items ≡ text.old.items ++ (codes "-" ++ hex number)) }
-{
-    text.push(b'-')?;
-    push_digits(text, number)
-}
-
-// Appends the text of the tag at a known time.
-pub fn push_text(text: &mut Vec<u8>, meta: &Meta, time: FileTime) -> Result<(), NoMemory>
+// Writes the text of the tag at a known time between quotes, and answers where it begins: from its end on, since each
+// number is written from its last digit on.
+fn put_tag(into: &mut [u8; MOST_TAG], meta: &Meta, time: FileTime) -> usize
     requires { is_in_years time.secs ≡ true }
-    ensures { OnOk result (text.new.items ≡ text.old.items
-        ++ tag_at meta.now.kind meta.now.number meta.now.len time) }
+    ensures within { result < 52 }
+    ensures tag { drop result into.new ≡ quoted (tag_at meta.now.kind meta.now.number meta.now.len time) }
 {
-    push_digits(text, meta.number)?;
-    if meta.kind == Kind::File {
-        push_part(text, meta.len)?;
+    let mut at = put_byte(into, MOST_TAG, b'"');
+    at = put_part(into, at, micros(time));
+    match meta.kind {
+        Kind::File => at = put_part(into, at, meta.len),
+        Kind::Dir | Kind::Link => {}
     }
-    push_part(text, micros(time))
+    at = put_digits(into, at, meta.number);
+    put_byte(into, at, b'"')
+}
+
+// The text of the tag at a known time between quotes, as a field's value.
+pub fn quoted_tag(alloc: Global, meta: &Meta, time: FileTime) -> Result<FieldValue, NoMemory>
+    requires { is_in_years time.secs ≡ true }
+    ensures { IfOk result (λ value. value ≡ quoted (tag_at meta.now.kind meta.now.number meta.now.len time)) }
+{
+    let mut text = [0; MOST_TAG];
+    let at = put_tag(&mut text, meta, time);
+    FieldValue::copy(alloc, &text[at..])
 }
 
 // What stands before the digits of a number at the end of a text.

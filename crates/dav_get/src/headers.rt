@@ -17,33 +17,16 @@ use std::alloc::Global;
 // The most fields of a file's answer.
 const MOST_FIELDS: usize = 6;
 
-// The most bytes of a tag that a disk's metadata makes, with its quotes: three numbers and two dashes.
-const MOST_TAG: usize = 52;
-
 // The most bytes of the value of `content-range`: a word, three numbers and what parts them.
 const MOST_RANGE: usize = 68;
 
 // Adds a field of this value.
-fn push(fields: &mut Vec<Field>, name: FieldName, value: Octets) -> Result<(), NoMemory>
+fn push(fields: &mut Vec<Field>, name: FieldName, value: FieldValue) -> Result<(), NoMemory>
     ensures { OnOk result (fields.new.items ≡ fields.old.items ++ field (spelled name) value ∷ []) }
 {
     let name = Text::known(name);
-    let value = FieldValue::new(value);
     fields.push(Field { name, value })?;
     Ok(())
-}
-
-// The entity tag between its quotes, where there is one.
-fn quoted_tag<M: DavMetaData>(alloc: Global, meta: &M) -> Result<Option<Octets>, NoMemory>
-    ensures { IfOk result (λ value. value ≡ quoted_where (M.info meta.now).tag) }
-{
-    let mut value = Vec::with_capacity(alloc, MOST_TAG)?;
-    value.push(b'"')?;
-    if !meta.push_tag(&mut value)? {
-        return Ok(None);
-    }
-    value.push(b'"')?;
-    Ok(Some(Octets::new(value)))
 }
 
 // Adds the entity tag, where there is one.
@@ -51,7 +34,7 @@ fn add_tag<M: DavMetaData>(alloc: Global, fields: &mut Vec<Field>, meta: &M) -> 
     ensures { OnOk result (fields.new.items ≡ fields.old.items ++ field_where (codes "etag")
         (quoted_where (M.info meta.now).tag)) }
 {
-    match quoted_tag(alloc, meta)? {
+    match meta.tag_value(alloc)? {
         Some(value) => push(fields, FieldName::Etag, value),
         None => Ok(()),
     }
@@ -163,13 +146,21 @@ fn add_range(alloc: Global, fields: &mut Vec<Field>, len: u64, sent: &Sent) -> R
         Sent::Unsatisfied => {
             let mut text = Vec::from_slice(alloc, b"bytes */")?;
             push_number(&mut text, len)?;
-            push(fields, FieldName::ContentRange, Octets::new(text))
+            push(
+                fields,
+                FieldName::ContentRange,
+                FieldValue::new(Octets::new(text)),
+            )
         }
         Sent::One(part) => {
             let mut text = Vec::with_capacity(alloc, MOST_RANGE)?;
             text.extend_from_slice(b"bytes ")?;
             push_span(&mut text, len, part)?;
-            push(fields, FieldName::ContentRange, Octets::new(text))
+            push(
+                fields,
+                FieldName::ContentRange,
+                FieldValue::new(Octets::new(text)),
+            )
         }
     }
 }

@@ -7,8 +7,8 @@ ghost use Rattle.dav_core.proofs.Untold.{untold_live};
 
 use crate::listings::{HostListing, listing_of, next_name};
 use crate::opens::{
-    HostFile, Opens, can_read, can_write, free_handle, may_change, meta_at, open_meta, read_at,
-    seek_at, write_at,
+    Opens, can_read, can_write, free_handle, may_change, meta_at, open_meta, read_at, seek_at,
+    write_at,
 };
 use crate::paths::{ROOM, lay_path};
 use crate::refusals::{list_refusal, open_refusal};
@@ -125,9 +125,8 @@ impl<R: Files + AllocGlobal + Clone + Drop> Disk for HostDisk<R> {
             return Err(self.fault());
         }
         match look_at(&self.rt, self.path.as_str()) {
-            Ok(meta) => Ok(meta),
-            Err(Some(e)) => Err(e),
-            Err(None) => Err(self.fault()),
+            Err(DiskError::Failed) => Err(self.fault()),
+            answer => answer,
         }
     }
 
@@ -138,9 +137,8 @@ impl<R: Files + AllocGlobal + Clone + Drop> Disk for HostDisk<R> {
         }
         let is_root = path.as_slice().is_empty();
         match look_at_link(&self.rt, self.path.as_str(), is_root) {
-            Ok(meta) => Ok(meta),
-            Err(Some(e)) => Err(e),
-            Err(None) => Err(self.fault()),
+            Err(DiskError::Failed) => Err(self.fault()),
+            answer => answer,
         }
     }
 
@@ -159,11 +157,11 @@ impl<R: Files + AllocGlobal + Clone + Drop> Disk for HostDisk<R> {
                 None => return Err(self.fault()),
             },
         };
-        let Some(meta) = open_meta(&file) else {
+        let Ok(meta) = open_meta(&file) else {
             return Err(self.fault());
         };
-        match self.opens.insert(handle, HostFile::new(file, how, meta)) {
-            Ok(_) => Ok(Handle(handle)),
+        match self.opens.keep(handle, file, how, &meta) {
+            Ok(()) => Ok(Handle(handle)),
             Err(_) => Err(DiskError::NoMemory),
         }
     }
@@ -171,8 +169,8 @@ impl<R: Files + AllocGlobal + Clone + Drop> Disk for HostDisk<R> {
     fn file_meta(&mut self, file: Handle) -> Result<Meta, DiskError> {
         self.asked = self.asked.saturating_add(1);
         match meta_at(&mut self.opens, file.0) {
-            Some(meta) => Ok(meta),
-            None => Err(self.fault()),
+            Err(DiskError::Failed) => Err(self.fault()),
+            answer => answer,
         }
     }
 

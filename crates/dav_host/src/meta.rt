@@ -3,7 +3,7 @@ ghost use Rattle.std.specs.Prelude.{◌≡◌, ◌<◌, pos, IfSome};
 ghost use Rattle.std.specs.Fs.{file_type};
 ghost use Rattle.dav_host.specs.Kinds.{IsKind, Tells};
 
-use dav_core::{FileTime, Kind, Meta};
+use dav_core::{DiskError, FileTime, Kind, Meta};
 use std::fs::Metadata;
 use std::os::unix::fs::MetadataExt;
 use std::time::UNIX_EPOCH;
@@ -37,13 +37,16 @@ fn kind_of(found: &Metadata) -> Option<Kind>
     found.is_file().then_some(Kind::File)
 }
 
-// What the machine says, or None where a disk has no kind for it. The owner may run it where bit 0o100 of its mode is
+// What the machine says, or `Failed` where a disk has no kind for it. The owner may run it where bit 0o100 of its mode is
 // set.
-pub fn meta_of(found: &Metadata) -> Option<Meta>
+pub fn told(found: &Metadata) -> Result<Meta, DiskError>
     ensures { Tells found.now result }
 {
-    Some(Meta {
-        kind: kind_of(found)?,
+    let Some(kind) = kind_of(found) else {
+        return Err(DiskError::Failed);
+    };
+    Ok(Meta {
+        kind,
         number: found.ino(),
         len: found.len(),
         modified: file_time(found.mtime(), found.mtime_nsec()),

@@ -1,13 +1,13 @@
 // The table of open files.
-ghost use Rattle.std.specs.Prelude.{◌≡◌, ◌≤◌, ◌<◌, ◌^◌, ℕ, Some, None, IsSome, IfSome, IfNone, OnOk, OnErr, length, option_map};
+ghost use Rattle.std.specs.Prelude.{◌≡◌, ◌≤◌, ◌<◌, ◌^◌, ◌⊎◌, ℕ, Some, None, IsSome, IfOk, IfErr, IfSome, IfNone, OnOk, OnErr, length, option_map};
 ghost use Rattle.dav_core.specs.World.{put};
 ghost use Rattle.dav_core.specs.Disk.{can_read as the_can_read, may_change as the_may_change};
 ghost use Rattle.dav_core.specs.Writing.{can_write as the_can_write};
 ghost use Rattle.dav_host.specs.Host.{live_at, live_of};
 
-use crate::meta::meta_of;
+use crate::meta::told;
 use crate::stream::{read_again, write_again};
-use dav_core::{Kind, Meta, OpenOptions};
+use dav_core::{DiskError, Kind, Meta, OpenOptions};
 use dav_io::NoMemory;
 use std::alloc::Global;
 use std::collections::BTreeMap;
@@ -20,41 +20,42 @@ pub struct HostFile<F> {
     pub file: F,
     pub kind: Kind,
     pub how: OpenOptions,
-    // What was seen when it was opened, until it is asked for. It is kept only of a file that isn't written.
-    pub seen: Option<Meta>,
 }
 
-impl<F: OpenFile> HostFile<F> {
-    // A file that was opened, and what was seen of it.
-    pub fn new(file: F, how: OpenOptions, meta: Meta) -> HostFile<F>
-        ensures { live_of result ≡ record { kind = meta.kind; how = how } }
-    {
-        let is_written = how.write || how.append;
-        HostFile {
-            file,
-            kind: meta.kind,
-            how,
-            seen: if is_written { None } else { Some(meta) },
-        }
-    }
-
-    // What is said of it, if it has still the kind that was seen when it was opened. None is a fault.
-    fn look(&mut self) -> Option<Meta>
-        ensures live { live_of self.new ≡ live_of self.old }
-        ensures kind { IfSome result (λ meta. meta.kind ≡ self.old.kind) }
-    {
-        let found = match self.seen.take() {
-            Some(meta) => Some(meta),
-            None => open_meta(&self.file),
-        };
-        let meta = found?;
-        (meta.kind == self.kind).then_some(meta)
+// What the machine says of an open file. `Failed` is a fault.
+pub fn open_meta<F: OpenFile>(file: &F) -> Result<Meta, DiskError>
+    ensures { IfErr result (λ e. e ≡ DiskError.Failed) }
+{
+    match file.metadata() {
+        Ok(found) => told(&found),
+        Err(_) => Err(DiskError::Failed),
     }
 }
 
-// What the machine says of an open file, or None where that is a fault.
-pub fn open_meta<F: OpenFile>(file: &F) -> Option<Meta> {
-    meta_of(&file.metadata().ok()?)
+// What the machine says of an open file, if it has still the kind that was seen when it was opened. `Failed` is a fault.
+fn look_again<F: OpenFile>(opened: &HostFile<F>) -> Result<Meta, DiskError>
+    ensures kind { IfOk result (λ meta. meta.kind ≡ opened.now.kind) }
+    ensures fault { IfErr result (λ e. e ≡ DiskError.Failed) }
+{
+    match open_meta(&opened.file) {
+        Ok(meta) if meta.kind != opened.kind => Err(DiskError::Failed),
+        answer => answer,
+    }
+}
+
+// What was seen of an open file, which is told once, or else what the machine says of it now. `Failed` is a fault.
+fn seen_or<F: OpenFile>(seen: &mut Option<Meta>, opened: &HostFile<F>) -> Result<Meta, DiskError>
+    ensures kind { IfOk result (λ meta. meta.kind ≡ opened.now.kind) }
+    ensures fault { IfErr result (λ e. e ≡ DiskError.Failed) }
+{
+    let Some(meta) = *seen else {
+        return look_again(opened);
+    };
+    *seen = None;
+    if meta.kind == opened.kind {
+        return Ok(meta);
+    }
+    Err(DiskError::Failed)
 }
 
 // The open files, by their handles. That of handle 0 stands beside the map, so that one file at a time takes no memory.
@@ -62,6 +63,9 @@ pub fn open_meta<F: OpenFile>(file: &F) -> Option<Meta> {
 pub struct Opens<F> {
     pub first: Option<HostFile<F>>,
     pub others: BTreeMap<u32, HostFile<F>>,
+    // What was seen of the file of handle 0 when it was opened, until it is asked for. It is kept only of a file that isn't
+    // written.
+    pub seen: Option<Meta>,
 }
 
 impl<F: Drop> Opens<F> {
@@ -73,23 +77,49 @@ impl<F: Drop> Opens<F> {
         Opens {
             first: None,
             others: BTreeMap::new(alloc),
+            seen: None,
         }
     }
 
     // Keeps an open file by its handle.
     #[tactic(auto, unfolding(crate::specs::Host::live_at))]
-    pub fn insert(&mut self, handle: u32, file: HostFile<F>) -> Result<(), NoMemory>
+    fn insert(&mut self, handle: u32, file: HostFile<F>) -> Result<(), NoMemory>
         ensures ok { OnOk result (live_at self.new ≡ put handle (Some (live_of file)) (live_at self.old)) }
         ensures err { OnErr result (live_at self.new ≡ live_at self.old) }
     {
         if handle == 0 {
             self.first = Some(file);
+            self.seen = None;
             return Ok(());
         }
         match self.others.insert(handle, file) {
             Ok(_) => Ok(()),
             Err(_) => Err(NoMemory),
         }
+    }
+
+    // Keeps a file that was opened so by its handle, and what was seen of it then.
+    #[tactic(auto, unfolding(crate::specs::Host::live_at))]
+    pub fn keep(
+        &mut self,
+        handle: u32,
+        file: F,
+        how: OpenOptions,
+        seen: &Meta,
+    ) -> Result<(), NoMemory>
+        ensures ok { OnOk result (live_at self.new
+            ≡ put handle (Some (record { kind = seen.now.kind; how = how })) (live_at self.old)) }
+        ensures err { OnErr result (live_at self.new ≡ live_at self.old) }
+    {
+        let kind = seen.kind;
+        match self.insert(handle, HostFile { file, kind, how }) {
+            Ok(()) => {}
+            Err(error) => return Err(error),
+        }
+        if handle == 0 && !how.write && !how.append {
+            self.seen = Some(*seen);
+        }
+        Ok(())
     }
 
     // Ends the open file of a handle, if there is one.
@@ -175,21 +205,22 @@ pub fn may_change(how: OpenOptions) -> bool
     how.write || how.append || how.truncate || how.create || how.create_new
 }
 
-// What is said of an open file: first what was seen when it was opened. None is a fault.
+// What is said of an open file: first what was seen when it was opened. `Failed` is a fault.
 #[tactic(auto, unfolding(crate::specs::Host::live_at))]
-pub fn meta_at<F: OpenFile>(opens: &mut Opens<F>, handle: u32) -> Option<Meta>
+pub fn meta_at<F: OpenFile>(opens: &mut Opens<F>, handle: u32) -> Result<Meta, DiskError>
     ensures live { live_at opens.new ≡ live_at opens.old }
-    ensures kind { IfSome result (λ meta. option_map (λ l. l.kind) (live_at opens.old handle) ≡ Some meta.kind) }
+    ensures kind { IfOk result (λ meta. option_map (λ l. l.kind) (live_at opens.old handle) ≡ Some meta.kind) }
+    ensures fault { IfErr result (λ e. e ≡ DiskError.Failed) }
 {
-    if handle == 0 {
-        return match &mut opens.first {
-            Some(opened) => opened.look(),
-            None => None,
+    if handle != 0 {
+        return match opens.others.get(&handle) {
+            Some(opened) => look_again(opened),
+            None => Err(DiskError::Failed),
         };
     }
-    match opens.others.get_mut(&handle) {
-        Some(opened) => opened.look(),
-        None => None,
+    match &opens.first {
+        Some(opened) => seen_or(&mut opens.seen, opened),
+        None => Err(DiskError::Failed),
     }
 }
 

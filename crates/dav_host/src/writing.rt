@@ -4,7 +4,7 @@ ghost use Rattle.std.specs.Prelude.{◌≡◌, ◌⊎◌, IfErr, IfSome};
 ghost use Rattle.dav_host.specs.Host.{IsWalkRefusal};
 ghost use Rattle.dav_host.specs.Refusals.{IsFileRefusal, IsMakeRefusal, IsMoveRefusal, IsTakeDirRefusal};
 
-use crate::meta::meta_of;
+use crate::meta::told;
 use crate::refusals::{file_refusal, make_refusal, move_refusal, refusal, take_dir_refusal};
 use dav_core::{DiskError, Meta};
 use dav_io::Text;
@@ -13,31 +13,32 @@ use std::os::unix::fs::{DirBuilderExt, MetadataExt, OpenOptionsExt};
 use std::rt::Files;
 use std::{fs, io};
 
-// What a look of the machine says.
-fn looked(answer: io::Result<Metadata>) -> Result<Meta, Option<DiskError>>
-    ensures { IfErr result (λ e. IfSome e IsWalkRefusal) }
+// What a look of the machine says. `Failed` is a fault.
+fn looked(answer: &io::Result<Metadata>) -> Result<Meta, DiskError>
+    ensures { IfErr result (λ e. IsWalkRefusal e ⊎ (e ≡ DiskError.Failed)) }
 {
     match answer {
-        Ok(found) => meta_of(&found).ok_or(None),
-        Err(error) => Err(refusal(&error)),
+        Ok(found) => told(found),
+        Err(error) => Err(refusal(error).unwrap_or(DiskError::Failed)),
     }
 }
 
-// What stands at a path.
-pub fn look_at<R: Files>(rt: &R, path: &str) -> Result<Meta, Option<DiskError>>
-    ensures { IfErr result (λ e. IfSome e IsWalkRefusal) }
+// What stands at a path. `Failed` is a fault.
+pub fn look_at<R: Files>(rt: &R, path: &str) -> Result<Meta, DiskError>
+    ensures { IfErr result (λ e. IsWalkRefusal e ⊎ (e ≡ DiskError.Failed)) }
 {
-    looked(fs::metadata(rt, path))
+    looked(&fs::metadata(rt, path))
 }
 
-// What stands at a path, a link at its end not followed. The root is a directory, also where a link leads to it.
-pub fn look_at_link<R: Files>(rt: &R, path: &str, is_root: bool) -> Result<Meta, Option<DiskError>>
-    ensures { IfErr result (λ e. IfSome e IsWalkRefusal) }
+// What stands at a path, a link at its end not followed. The root is a directory, also where a link leads to it. `Failed`
+// is a fault.
+pub fn look_at_link<R: Files>(rt: &R, path: &str, is_root: bool) -> Result<Meta, DiskError>
+    ensures { IfErr result (λ e. IsWalkRefusal e ⊎ (e ≡ DiskError.Failed)) }
 {
     if is_root {
         return look_at(rt, path);
     }
-    looked(fs::symlink_metadata(rt, path))
+    looked(&fs::symlink_metadata(rt, path))
 }
 
 // Why a call doesn't change the root: what the look at a path says, or else this refusal.
@@ -46,7 +47,8 @@ fn kept<R: Files>(rt: &R, path: &str, stays: DiskError) -> Option<DiskError>
 {
     match look_at(rt, path) {
         Ok(_) => Some(stays),
-        Err(error) => error,
+        Err(DiskError::Failed) => None,
+        Err(error) => Some(error),
     }
 }
 

@@ -4,7 +4,7 @@ ghost use Rattle.dav_local.specs.Files.{looked_as as the_looked_as, done_by, loc
 ghost use Rattle.dav_local.specs.Metadata.{in_years, lies_in, tag_bytes};
 
 use dav_core::{DavMetaData, DavPath, DiskError, FileTime, FsError, Kind, Meta};
-use dav_io::{NoMemory, Text};
+use dav_io::{FieldValue, NoMemory, Text};
 use dav_store::EmptyMetaData;
 use std::alloc::Global;
 
@@ -139,10 +139,10 @@ impl DavMetaData for LocalFsMetaData {
         }
     }
 
-    fn push_tag(&self, text: &mut Vec<u8>) -> Result<bool, NoMemory> {
+    fn tag_value(&self, alloc: Global) -> Result<Option<FieldValue>, NoMemory> {
         match self {
-            LocalFsMetaData::Found(meta) => DavMetaData::push_tag(meta, text),
-            LocalFsMetaData::Empty => DavMetaData::push_tag(&EmptyMetaData, text),
+            LocalFsMetaData::Found(meta) => DavMetaData::tag_value(meta, alloc),
+            LocalFsMetaData::Empty => DavMetaData::tag_value(&EmptyMetaData, alloc),
         }
     }
 

@@ -12,6 +12,7 @@ use Rattle.dav_core.specs.DavPath.{WebPath, last_name, link_of, shown as shown_t
 use Rattle.dav_core.specs.Info.{known_time, tag_of, natural}
 use Rattle.dav_core.specs.Methods.{same_method}
 use Rattle.dav_core.specs.Path.{same_names}
+pub use Rattle.dav_core.specs.Tags.{quoted, quoted_where}
 use Rattle.dav_core.specs.World.{World, bytes_of}
 use Rattle.dav_model.specs.declared.settings.Settings.{Settings}
 use Rattle.dav_model.specs.declared.ranges.Slice.{Slice}
@@ -73,13 +74,6 @@ is_uncached fields status = status == 404 && is_from_microsoft fields
 -- what a request with these fields is refused with
 abbrev pub refusal : Fields → ℕ → Bool → Reply
 refusal fields status close = refused_with (is_uncached fields status) status close
-
-abbrev pub quoted : List ℕ → List ℕ
-quoted tag = 34 ∷ (tag ++ 34 ∷ [])
-
-abbrev pub quoted_where : Option (List ℕ) → Option (List ℕ)
-quoted_where None = None
-quoted_where (Some tag) = Some (quoted tag)
 
 -- What stands at a path, as far as an answer speaks of it: its length in bytes, the time of its last change where it is
 -- known, the text of its entity tag, and the address that a client is sent to in its place.

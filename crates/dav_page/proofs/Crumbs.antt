@@ -18,7 +18,7 @@ use Rattle.dav_page.proofs.Written.{link_written, name_written}
 pub joined_utf8 : (a b : List ℕ) → is_utf8 a ≡ true → is_utf8 b ≡ true → is_utf8 (a ++ b) ≡ true
 joined_utf8 a b x y = is_utf8-from_IsUtf8 (a ++ b) (IsUtf8-append a b (IsUtf8-from_is_utf8 a x) (IsUtf8-from_is_utf8 b y))
 
-slash_utf8 : is_utf8 (codes "/") ≡ true
+pub slash_utf8 : is_utf8 (codes "/") ≡ true
 unfolding is_utf8 chars lib.Utf8.encode
 slash_utf8 = refl
 

@@ -1,15 +1,17 @@
 -- What is written as the index page of a directory, besides that it is a page.
-use Rattle.std.specs.Prelude.{◌≡◌, ℕ, List, [], ◌∷◌, ◌++◌, Option, Bool, true, false, encode_utf8_all, map, option_map}
+use Rattle.std.specs.Prelude.{◌≡◌, ℕ, List, [], ◌∷◌, ◌++◌, Option, Bool, true, false, IsUtf8, encode_utf8_all, map, option_map}
 use Rattle.std.specs.List.{AllZip, flat_map}
 use Rattle.std.specs.Str.{chars, is_utf8}
 use Rattle.htmlescape.specs.declared.alphabet.Alphabet.TheVariants.{Minimal}
 use Rattle.htmlescape.specs.Escapes.{encoded}
 use Rattle.dav_core.specs.declared.member.Member.{Member}
 use Rattle.dav_core.specs.DavPath.{WebPath, last_name, link_of, final_slash, shown, slashed}
+use Rattle.dav_core.specs.Info.{known}
 use Rattle.dav_core.specs.Path.{Names, is_plain}
+use Rattle.dav_core.specs.Tree.{is_dir}
 use Rattle.dav_page.specs.declared.row.PageRow.{PageRow}
 use Rattle.dav_page.specs.Pages.{Crumb, CrumbTexts, IsCrumb, IsLast, IsPage, IsRow, IsSize, IsTitle, NoCrumbsAtRoot, Page, PageTexts, RowTexts, before_heading, before_rows, before_title, heading_text, is_date, pieces_of, row_text}
-use Rattle.dav_page.specs.Listed.{IsOf, IsRowOf, all_names, crumbs_from}
+use Rattle.dav_page.specs.Listed.{IsDateOf, IsOf, IsRowOf, all_names, crumbs_from, shown_name, size_of}
 
 -- the text of a name between tags
 abbrev pub name_text : List ℕ → List ℕ
@@ -73,6 +75,19 @@ pub record IsRowText (dir : WebPath) (m : Member) (text : List ℕ) : Type 0 whe
   pub utf8 : is_utf8 text ≡ true
   pub reads : IsRow texts row
   pub of : IsRowOf dir m row
+
+-- The text of a row of this member, where the link of its directory is known: it ends with a slash, and the link goes
+-- on behind it.
+pub record IsRowBelow (below : List ℕ) (m : Member) (text : List ℕ) : Type 0 where
+  pub texts : RowTexts
+  pub link : texts.link ≡ below ++ (link_of m.name ++ final_slash (is_dir m.kind))
+  pub name : texts.name ≡ name_text (shown_name m)
+  pub named : IsUtf8 m.name
+  pub date : IsDateOf (known m.modified) texts.date
+  pub size : texts.size ≡ size_of m
+  pub fits : IsSize texts.size
+  pub spells : text ≡ row_text texts
+  pub utf8 : IsUtf8 text
 
 -- The heading of the path with these names, byte by byte.
 abbrev pub heading_of : Names → List ℕ

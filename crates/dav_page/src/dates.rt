@@ -1,17 +1,16 @@
 // Dates and sizes as pages show them.
-ghost use Rattle.std.specs.Prelude.{◌≡◌, ◌+◌, ◌<◌, ◌≤◌, ◌≤ℤ◌, ◌++◌, IfOk, OnOk, codes, pos, string_bytes};
+ghost use Rattle.std.specs.Prelude.{◌≡◌, ◌+◌, ◌/◌, ◌%◌, ◌<◌, ◌≤◌, ◌≤ℤ◌, ◌++◌, List, ℕ, OnOk, codes, pos, string_bytes};
 ghost use Rattle.httpdate.specs.Text.{four_digits, two_digits};
 ghost use Rattle.jiff_core.specs.Calendar.{IsCivilDate, days_from_civil};
 ghost use Rattle.dav_core.specs.Info.{known};
 ghost use Rattle.dav_page.specs.Listed.{IsDateOf, IsMinute, size_of};
 ghost use Rattle.dav_page.specs.Pages as form;
 
-use crate::display_size;
 use crate::literals::NO_SIZE;
+use crate::sizes::push_size;
 use dav_core::{FileTime, Kind, Member};
-use dav_io::{NoMemory, Text};
+use dav_io::NoMemory;
 use jiff_core::civil::Date;
-use std::alloc::Global;
 
 // The days from -9999-01-01 to 1970-01-01.
 const DAYS_TO_1970: u32 = 4_371_587;
@@ -68,41 +67,50 @@ fn push_day(text: &mut String, year: u16, month: u8, day: u8) -> Result<(), NoMe
     push_two(text, day)
 }
 
-// The minute of a second since 1970, up to the end of the year 9999, in UTC.
-fn minute_text(alloc: Global, secs: u64) -> Result<Text, NoMemory>
-    requires { secs < 253_402_300_800 }
-    ensures { IfOk result (IsMinute secs) }
+// Appends the minute of a second in its day: ` HH:MM`.
+fn push_clock(text: &mut String, secs: u64) -> Result<(), NoMemory>
+    ensures { OnOk result (string_bytes text.new ≡ string_bytes text.old ++ (codes " "
+        ++ (two_digits (secs % 86400 / 3600) ++ (codes ":" ++ two_digits (secs % 3600 / 60))))) }
 {
-    let (year, month, day) = civil_of((secs / 86_400) as u32);
-    let mut text = String::with_capacity(alloc, 16)?;
-    push_day(&mut text, year, month, day)?;
     text.push(' ')?;
-    push_two(&mut text, (secs % 86_400 / 3_600) as u8)?;
+    push_two(text, (secs % 86_400 / 3_600) as u8)?;
     text.push(':')?;
-    push_two(&mut text, (secs % 3_600 / 60) as u8)?;
-    Ok(Text::new(text))
+    push_two(text, (secs % 3_600 / 60) as u8)
 }
 
-// The text of a time. It is empty where the time is unknown, and a time before 1970 or after 9999 is.
-pub(crate) fn date_text(alloc: Global, time: Option<FileTime>) -> Result<Text, NoMemory>
-    ensures { IfOk result (IsDateOf (known time)) }
+// Appends the minute of a second since 1970, up to the end of the year 9999, in UTC.
+fn push_minute(text: &mut String, secs: u64) -> Result<(), NoMemory>
+    requires { secs < 253_402_300_800 }
+    ensures { OnOk result ((minute : List ℕ) × (string_bytes text.new ≡ string_bytes text.old ++ minute)
+        × IsMinute secs minute) }
+{
+    let (year, month, day) = civil_of((secs / 86_400) as u32);
+    push_day(text, year, month, day)?;
+    push_clock(text, secs)?;
+    Ok(())
+}
+
+// Appends the text of a time. It is empty where the time is unknown, and a time before 1970 or after 9999 is.
+pub(crate) fn push_date(text: &mut String, time: Option<FileTime>) -> Result<(), NoMemory>
+    ensures { OnOk result ((date : List ℕ) × (string_bytes text.new ≡ string_bytes text.old ++ date)
+        × IsDateOf (known time) date) }
 {
     match time {
         Some(time) if time.secs >= 0 && time.secs < 253_402_300_800 => {
-            minute_text(alloc, time.secs as u64)
+            push_minute(text, time.secs as u64)
         }
-        _ => Text::copy(alloc, ""),
+        _ => Ok(()),
     }
 }
 
-// The text of a member's size.
-pub(crate) fn size_text(alloc: Global, member: &Member) -> Result<Text, NoMemory>
-    ensures value { IfOk result (λ text. text ≡ size_of member.now) }
-    ensures form { IfOk result form.IsSize }
+// Appends the text of a member's size.
+pub(crate) fn push_size_of(text: &mut String, member: &Member) -> Result<(), NoMemory>
+    ensures value { OnOk result (string_bytes text.new ≡ string_bytes text.old ++ size_of member.now) }
+    ensures form { OnOk result (form.IsSize (size_of member.now)) }
 {
     if member.kind == Kind::File {
-        display_size(alloc, member.len)
+        push_size(text, member.len)
     } else {
-        Text::copy(alloc, NO_SIZE)
+        Ok(text.push_str(NO_SIZE)?)
     }
 }

@@ -1,8 +1,9 @@
-ghost use Rattle.std.specs.Prelude.{◌≡◌, ◌≤◌, ◌<◌, ◌^◌, IfOk, MatchOption, codes, string_bytes};
+ghost use Rattle.std.specs.Prelude.{◌≡◌, ◌≤◌, ◌<◌, ◌^◌, ◌++◌, IfOk, MatchOption, OnOk, codes, decimal, string_bytes};
 ghost use Rattle.dav_page.specs.Pages.{IsAmount};
-ghost use Rattle.dav_page.specs.Sizes.{amount, hundredths, scale, scale_of, shown_size};
+ghost use Rattle.dav_page.specs.Sizes.{amount, fraction, hundredths, scale, scale_of, shown_size};
 
 use dav_io::{NoMemory, Text};
+use itoa::Buffer;
 use std::alloc::Global;
 
 // The bytes and the name of the greatest unit that isn't above a size. None where it is the byte.
@@ -39,28 +40,58 @@ fn quotient(size: u64, unit: u64) -> u64
     whole * 100 + (rest * 200 + unit) / (2 * unit)
 }
 
-// So many hundredths of a unit, without zeros at the end.
-fn text_of(alloc: Global, hundredths: u64, unit: &str) -> Result<String, NoMemory>
-    ensures { IfOk result (λ text. string_bytes text ≡ amount hundredths unit.now) }
+// Appends a number in decimal.
+fn push_number(text: &mut String, number: u64) -> Result<(), NoMemory>
+    ensures { OnOk result (string_bytes text.new ≡ string_bytes text.old ++ decimal number) }
 {
-    let whole = hundredths / 100;
-    let tenths = hundredths % 100 / 10;
-    let last = hundredths % 10;
-    if last != 0 {
-        Ok(format!(in alloc; "{whole}.{tenths}{last} {unit}")?)
-    } else if tenths != 0 {
-        Ok(format!(in alloc; "{whole}.{tenths} {unit}")?)
-    } else {
-        Ok(format!(in alloc; "{whole} {unit}")?)
-    }
+    let mut digits = Buffer::new();
+    Ok(text.push_str(digits.format(number))?)
 }
 
-// A size of which the byte is the greatest unit that isn't above it.
-fn in_bytes(alloc: Global, size: u64) -> Result<Text, NoMemory>
-    requires { scale_of size ≡ scale 1 (codes "B") }
-    ensures { IfOk result (λ text. text ≡ shown_size size) }
+// Appends so many hundredths behind a point, without zeros at the end.
+fn push_fraction(text: &mut String, hundredths: u64) -> Result<(), NoMemory>
+    ensures { OnOk result (string_bytes text.new ≡ string_bytes text.old ++ fraction hundredths) }
 {
-    Ok(Text::new(format!(in alloc; "{size} B")?))
+    if hundredths == 0 {
+        return Ok(());
+    }
+    text.push('.')?;
+    push_number(text, hundredths / 10)?;
+    if hundredths % 10 != 0 {
+        push_number(text, hundredths % 10)?;
+    }
+    Ok(())
+}
+
+// Appends so many hundredths of a unit, without zeros at the end.
+fn push_amount(text: &mut String, hundredths: u64, unit: &str) -> Result<(), NoMemory>
+    ensures { OnOk result (string_bytes text.new ≡ string_bytes text.old ++ amount hundredths unit.now) }
+{
+    push_number(text, hundredths / 100)?;
+    push_fraction(text, hundredths % 100)?;
+    text.push(' ')?;
+    Ok(text.push_str(unit)?)
+}
+
+// Appends a size of which the byte is the greatest unit that isn't above it.
+fn push_bytes(text: &mut String, size: u64) -> Result<(), NoMemory>
+    requires { scale_of size ≡ scale 1 (codes "B") }
+    ensures { OnOk result (string_bytes text.new ≡ string_bytes text.old ++ shown_size size) }
+{
+    push_number(text, size)?;
+    Ok(text.push_str(" B")?)
+}
+
+// Appends a size as `display_size` shows it.
+pub(crate) fn push_size(text: &mut String, size: u64) -> Result<(), NoMemory>
+    ensures value { OnOk result (string_bytes text.new ≡ string_bytes text.old ++ shown_size size) }
+    ensures form { OnOk result (IsAmount (shown_size size)) }
+{
+    match unit_of(size) {
+        Some((bytes, unit)) => push_amount(text, quotient(size, bytes), unit)?,
+        None => push_bytes(text, size)?,
+    }
+    Ok(())
 }
 
 /// A size in bytes as index pages show it: from 1024 to below 2^60 in the greatest of KiB, MiB, GiB, TiB and PiB that
@@ -69,8 +100,7 @@ pub fn display_size(alloc: Global, size: u64) -> Result<Text, NoMemory>
     ensures value { IfOk result (λ text. text ≡ shown_size size) }
     ensures form { IfOk result IsAmount }
 {
-    match unit_of(size) {
-        Some((bytes, unit)) => Ok(Text::new(text_of(alloc, quotient(size, bytes), unit)?)),
-        None => Ok(in_bytes(alloc, size)?),
-    }
+    let mut text = String::new(alloc);
+    push_size(&mut text, size)?;
+    Ok(Text::new(text))
 }

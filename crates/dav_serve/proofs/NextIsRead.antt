@@ -1,5 +1,5 @@
 -- What a look for the next request reads, call by call, and what it gives.
-use Rattle.std.proofs.Common.{◌≡◌, ◌<◌, ◌≤◌, ◌^◌, ◌++◌, ℕ, List, [], ◌∷◌, Result, Ok, Err, length, take, drop, sym, ap, subst, ◌∙◌, refl, arith, append_assoc, append-nil, length-append}
+use Rattle.std.proofs.Common.{◌≡◌, ◌<◌, ◌≤◌, ◌^◌, ◌++◌, ℕ, Bool, true, rules, List, [], ◌∷◌, Result, Ok, Err, length, take, drop, sym, ap, subst, ◌∙◌, refl, arith, append_assoc, append-nil, length-append}
 use Rattle.std.proofs.lemmas.List.{append_cancel_left, take-append-drop}
 use Rattle.http.specs.declared.request.Parts.{Parts}
 use Rattle.http.specs.Request.{body_of, head_of}
@@ -30,7 +30,7 @@ use Rattle.dav_model.specs.Conditions.{Asked}
 use Rattle.dav_serve.specs.Next.{GivesNext, HasBodyOf, ReadsNext, next_by, over_with}
 use Rattle.dav_serve.specs.Serving.{IsEmptied, IsWanting, wanting_head, wanting_body}
 use Rattle.dav_serve.specs.declared.asking.Next.{Next}
-use Rattle.dav_serve.specs.declared.asking.Next.TheVariants.{Refused}
+use Rattle.dav_serve.specs.declared.asking.Next.TheVariants.{Refused, Whole}
 use Rattle.dav_serve.proofs.ExchangesEnd.{rose_between}
 
 -- ---- bytes that are got
@@ -173,9 +173,9 @@ pub record Begins (mid : Pending) (next : Pending) (parts : Parts) (announced : 
   pub same : next.taken ≡ mid.taken
   pub announced_is : announced ≡ announces head
 
-pub begins : {mid next : Pending} {parts : Parts} {announced : Announced} → Finds mid.bytes (Ok FoundWhole) parts next.bytes → next.taken ≡ mid.taken → announced ≡ announced_by parts
+pub begins : {mid next : Pending} {parts : Parts} {announced : Announced} (plain : Bool) → Finds mid.bytes (Ok (FoundWhole plain)) parts next.bytes → next.taken ≡ mid.taken → announced ≡ announced_by parts
     → Begins mid next parts announced
-begins {parts = parts} found same is = record { head = found.0; stands = found.1; read = found.2; same = same; announced_is = is ∙ parts_announce found.0 parts found.2 }
+begins {parts = parts} plain found same is = record { head = found.0; stands = found.1; read = found.2; same = same; announced_is = is ∙ parts_announce found.0 parts found.2 }
 
 -- a head, and behind it bytes that were passed and others that are held
 stands_on : (mid next got passed kept : List ℕ) (head : RequestHead) → IsRequest mid head next → next ++ got ≡ passed ++ kept
@@ -195,10 +195,10 @@ pub body_wants : {between new : Stream} {mid next kept : Pending} {parts : Parts
 body_wants {mid = mid} {next = next} {kept = kept} {passed = passed} b c unfinished = wanting_body b.head (passed ++ kept.bytes) (stands_on mid.bytes next.bytes c.got passed kept.bytes b.head b.stands c.whole)
     (subst (λ z. IsBodyUnfinished z (passed ++ kept.bytes)) b.announced_is unfinished)
 
-read_gives : {between : Stream} {mid next kept : Pending} {announced : Announced} {passed : List ℕ} (old new : Stream) (read : BodyRead) (asked : Asked) (b : Begins mid next (head_of asked) announced)
+read_gives : {between : Stream} {mid next kept : Pending} {announced : Announced} {passed : List ℕ} (old new : Stream) (plain : Bool) (read : BodyRead) (asked : Asked) (b : Begins mid next (head_of asked) announced)
     → HasBodyOf read (body_of asked) → ReadsOn between next passed kept new → GivesBody announced between (Ok read) passed kept new → (IsEmptied between new → IsEmptied old new)
-    → GivesNext old (Ok (next_by read)) asked ((print_request b.head ++ passed) ++ kept.bytes) kept new
-read_gives {mid = mid} {next = next} {kept = kept} {announced = announced} {passed = passed} old new (BodyWhole body) asked b has c gives over = (
+    → GivesNext old (Ok (next_by plain read)) asked ((print_request b.head ++ passed) ++ kept.bytes) kept new
+read_gives {mid = mid} {next = next} {kept = kept} {announced = announced} {passed = passed} old new plain (BodyWhole body) asked b has c gives over = (
   b.head,
   b.read,
   record {
@@ -208,9 +208,9 @@ read_gives {mid = mid} {next = next} {kept = kept} {announced = announced} {pass
         (subst (λ z. IsBody z (passed ++ kept.bytes) body kept.bytes) b.announced_is (bodies_stay announced passed body [] kept.bytes gives));
   },
 )
-read_gives {mid = mid} {next = next} {kept = kept} {passed = passed} old new (BodyRefused flaw) asked b has c gives over = refused_body b.head (passed ++ kept.bytes)
+read_gives {mid = mid} {next = next} {kept = kept} {passed = passed} old new plain (BodyRefused flaw) asked b has c gives over = refused_body b.head (passed ++ kept.bytes)
     (stands_on mid.bytes next.bytes c.got passed kept.bytes b.head b.stands c.whole) (subst (λ z. BodyRefusal z (passed ++ kept.bytes) flaw) b.announced_is gives)
-read_gives {mid = mid} {next = next} {kept = kept} {passed = passed} old new Ended asked b has c gives over = (
+read_gives {mid = mid} {next = next} {kept = kept} {passed = passed} old new plain Ended asked b has c gives over = (
   open_body b.head (passed ++ kept.bytes) (stands_on mid.bytes next.bytes c.got passed kept.bytes b.head b.stands c.whole)
       (subst (λ z. IsBodyUnfinished z (passed ++ kept.bytes)) b.announced_is gives.0),
   gives.1,
@@ -218,13 +218,19 @@ read_gives {mid = mid} {next = next} {kept = kept} {passed = passed} old new End
 )
 
 -- the body was read, or is none
-pub body_read : {old between new : Stream} {held mid next kept : Pending} {announced : Announced} (read : BodyRead) (end : Next) (asked : Asked) → Begins mid next (head_of asked) announced
-    → ReadsOn old held [] mid between → ReadsBody announced between next (Ok read) kept new → end ≡ next_by read → HasBodyOf read (body_of asked) → ReadsNext old held (Ok end) asked kept new
-body_read {old = old} {new = new} {held = held} {kept = kept} read end asked b a r is has = subst (λ z. ReadsNext old held (Ok z) asked kept new) (sym is) (record {
+pub body_read : {old between new : Stream} {held mid next kept : Pending} {announced : Announced} (plain : Bool) (read : BodyRead) (end : Next) (asked : Asked) → Begins mid next (head_of asked) announced
+    → ReadsOn old held [] mid between → ReadsBody announced between next (Ok read) kept new → end ≡ next_by plain read → HasBodyOf read (body_of asked) → ReadsNext old held (Ok end) asked kept new
+body_read {old = old} {new = new} {held = held} {kept = kept} plain read end asked b a r is has = subst (λ z. ReadsNext old held (Ok z) asked kept new) (sym is) (record {
   passed = print_request b.head ++ r.passed;
   on = body_reads b a r.on;
-  gives = read_gives old new read asked b has r.on r.gives (empties_then new a);
+  gives = read_gives old new plain read asked b has r.on r.gives (empties_then new a);
 })
+
+-- what is said of its fields is what was said of its head's
+pub told_plain : {P : Type 0} (plain : Bool) (read : BodyRead) → (plain ≡ true → P) → next_by plain read ≡ Whole true → P
+told_plain plain (BodyWhole body) is same = is (search (rules, same))
+told_plain plain (BodyRefused flaw) is same = cc
+told_plain plain Ended is same = cc
 
 fails_gives : (old : Stream) {between new : Stream} {mid next kept : Pending} {parts : Parts} {announced : Announced} {passed : List ℕ} (e : ReadError) (asked : Asked) (b : Begins mid next parts announced)
     → ReadsOn between next passed kept new → GivesBody announced between (Err e) passed kept new → old.faults ≤ between.faults

@@ -1,5 +1,5 @@
 -- What a look for the next request of an input does, and what it gives.
-use Rattle.std.specs.Prelude.{◌≡◌, ℕ, ◌<◌, ◌^◌, List, [], ◌∷◌, ◌++◌, Result, Ok, Err}
+use Rattle.std.specs.Prelude.{◌≡◌, ℕ, Bool, ◌<◌, ◌^◌, List, [], ◌∷◌, ◌++◌, Result, Ok, Err}
 use Rattle.http.specs.Request.{body_of, head_of}
 use Rattle.httparse.specs.Grammar.{RequestHead}
 use Rattle.dav_io.specs.Counts.{Rose}
@@ -17,11 +17,12 @@ use Rattle.dav_serve.specs.Serving.{IsEmptied, IsWanting}
 use Rattle.dav_serve.specs.declared.asking.Next.{Next}
 use Rattle.dav_serve.specs.declared.asking.Next.TheVariants.{Whole, Refused, Over, Unfinished}
 
--- what comes next behind a head, by what came of reading the body behind it
-abbrev pub next_by : BodyRead → Next
-next_by (BodyWhole body) = Whole
-next_by (BodyRefused flaw) = Refused flaw
-next_by Ended = Unfinished
+-- what comes next behind a head, by whether its fields are known to be plain, and by what came of reading the body behind
+-- it
+abbrev pub next_by : Bool → BodyRead → Next
+next_by plain (BodyWhole body) = Whole plain
+next_by plain (BodyRefused flaw) = Refused flaw
+next_by plain Ended = Unfinished
 
 -- These bytes are the body that was read, where one was.
 abbrev pub HasBodyOf : BodyRead → List ℕ → Type 0
@@ -37,7 +38,7 @@ over_with (b ∷ bytes) = Unfinished
 -- What is given, by the bytes that were held and those that came behind them, and by what is held now of these. Where a
 -- request came whole, it is the one that is asked.
 abbrev pub GivesNext : Stream → Result Next ReadError → Asked → List ℕ → Pending → Stream → Type 0
-GivesNext old (Ok Whole) asked text kept new =
+GivesNext old (Ok (Whole plain)) asked text kept new =
     (head : RequestHead) × IsRead head (head_of asked)
     × IsMessage text (record { head = head; body = body_of asked }) kept.bytes
 GivesNext old (Ok (Refused flaw)) asked text kept new = MessageRefusal text flaw
@@ -58,7 +59,7 @@ pub record ReadsNext (old : Stream) (held : Pending) (result : Result Next ReadE
 
 -- Where the source was asked and gave no more, nothing waits for the sink.
 abbrev pub IsEmptiedBy : Result Next ReadError → List ℕ → Type 0
-IsEmptiedBy (Ok Whole) waiting = Unit {0}
+IsEmptiedBy (Ok (Whole plain)) waiting = Unit {0}
 IsEmptiedBy (Ok (Refused flaw)) waiting = Unit {0}
 IsEmptiedBy (Ok Over) waiting = waiting ≡ []
 IsEmptiedBy (Ok Unfinished) waiting = waiting ≡ []

@@ -1,16 +1,20 @@
 // Looking for the next request of an input, with its body.
-ghost use Rattle.std.specs.Prelude.{◌≡◌, ◌≤◌, ◌^◌, ◌++◌, ℕ, List, [], Ok};
+ghost use Rattle.std.specs.Prelude.{◌≡◌, ◌≤◌, ◌^◌, ◌++◌, ℕ, List, [], true, Ok};
 ghost use Rattle.dav_io.specs.Outside.{Stream};
+ghost use Rattle.dav_wire.specs.Announced.{announced_by as the_announced_by};
 ghost use Rattle.dav_wire.specs.BodyReading.{ReadsOn};
+ghost use Rattle.dav_wire.specs.Fields.{ArePlain};
 ghost use Rattle.dav_wire.specs.Reading.{sending, Pending};
 ghost use Rattle.dav_wire.specs.Writing.{Pushes};
 ghost use Rattle.http.specs.Request.{body_of, head_of};
 ghost use Rattle.dav_serve.specs.Next.{HasBodyOf, IsEmptiedBy, ReadsNext, next_by as the_next_by, over_with};
 ghost use Rattle.dav_serve.specs.Serving.{IsWanting};
+ghost use Rattle.dav_serve.specs.declared.asking.Next.TheVariants.{Whole};
 
 use dav_io::{Client, Octets, Sink};
 use dav_wire::{
-    BodyRead, Flaw, Found, Input, Output, ReadError, announced_by, fill_flushing, read_body,
+    Announced, BodyRead, Flaw, Found, Input, Output, ReadError, announced_by, fill_flushing,
+    read_body,
 };
 use http::Request;
 use std::alloc::Global;
@@ -18,8 +22,9 @@ use std::alloc::Global;
 /// What comes next in an input.
 #[derive(Clone, Copy, Debug, PartialEq, Eq)]
 pub enum Next {
-    /// A whole request, which was passed.
-    Whole,
+    /// A whole request, which was passed. Where this is true, its head has none of the fields `content-length`,
+    /// `transfer-encoding` and `connection`; where it is false, it may have some.
+    Whole(bool),
     /// No request can stand there: this is owed.
     Refused(Flaw),
     /// The input is over.
@@ -28,16 +33,28 @@ pub enum Next {
     Unfinished,
 }
 
-// What comes next behind the head of a request, by what came of reading its body, which the request gets.
-fn next_by(request: &mut Request<Octets>, read: BodyRead) -> Next
-    ensures next { result ≡ the_next_by read }
+// The body that the head of a request announces. Where its fields are known to be plain, the map isn't asked.
+fn announced_where(plain: bool, request: &Request<Octets>) -> Announced
+    requires { plain ≡ true → ArePlain (head_of request.now).headers }
+    ensures { result ≡ the_announced_by (head_of request.now) }
+{
+    if plain {
+        return Announced::Nothing;
+    }
+    announced_by(request)
+}
+
+// What comes next behind the head of a request, by what came of reading its body, which the request gets; and by whether
+// the fields of the head are known to be plain.
+fn next_by(request: &mut Request<Octets>, plain: bool, read: BodyRead) -> Next
+    ensures next { result ≡ the_next_by plain read }
     ensures head { head_of request.new ≡ head_of request.old }
     ensures body { HasBodyOf read (body_of request.new) }
 {
     match read {
         BodyRead::Whole(body) => {
             *request.body_mut() = body;
-            Next::Whole
+            Next::Whole(plain)
         }
         BodyRead::Refused(flaw) => Next::Refused(flaw),
         BodyRead::Ended => Next::Unfinished,
@@ -57,7 +74,7 @@ fn at_end(input: &Input) -> Next
 /// Reads the next request with its body: from what is held, and then from what the client gives, a call at a time. It
 /// takes the place of what `request` had, which may have anything where none came whole. Before the client is asked,
 /// all that waits for the sink is given to it (RFC 9112, sections 2, 6 and 7.1). What was passed of a request that
-/// isn't whole is gone, so nothing is read behind an error.
+/// isn't whole is gone, so nothing is read behind an error. What is said of a whole request's fields is so.
 pub fn next_message<S: Client<K>, K: Sink>(
     alloc: Global,
     input: &mut Input,
@@ -75,14 +92,15 @@ pub fn next_message<S: Client<K>, K: Sink>(
     ensures reads { ReadsNext (S.stream source.old) input.old result request.new input.new
         (S.stream source.new) }
     ensures sends { Pushes (K.stream sink.old) output.old [] (sending result) output.new (K.stream sink.new) }
+    ensures plain { result ≡ Ok (Whole true) → ArePlain (head_of request.new).headers }
     ensures emptied { IsEmptiedBy result output.new }
 {
     'heads: loop {
         match input.next_head(alloc, request) {
-            Ok(Found::Whole) => {
-                let announced = announced_by(request);
+            Ok(Found::Whole(plain)) => {
+                let announced = announced_where(plain, request);
                 return match read_body(alloc, announced, input, source, output, sink) {
-                    Ok(read) => Ok(next_by(request, read)),
+                    Ok(read) => Ok(next_by(request, plain, read)),
                     Err(error) => Err(error),
                 };
             }

@@ -1,8 +1,9 @@
 // One request, and all that is answered to it.
-ghost use Rattle.std.specs.Prelude.{◌≡◌, ◌+◌, ◌<◌, ◌^◌, IfOk, OnErr, OnOk};
+ghost use Rattle.std.specs.Prelude.{◌≡◌, ◌+◌, ◌<◌, ◌^◌, true, IfOk, OnErr, OnOk};
 ghost use Rattle.http.specs.Request.{head_of};
 ghost use Rattle.dav_handler.specs.Player.{stage_of};
 ghost use Rattle.dav_wire.specs.Answers.{head_text};
+ghost use Rattle.dav_wire.specs.Fields.{ArePlain};
 ghost use Rattle.dav_wire.specs.Framing.{takes_chunks as the_takes_chunks};
 ghost use Rattle.dav_serve.specs.Exchange.{ClosesAfter};
 ghost use Rattle.dav_serve.specs.Ends.{EndsBody, Exchanges, IsAt, MemoryStopped, ended_by};
@@ -38,23 +39,28 @@ pub struct Manner {
     pub chunks: bool,
 }
 
-/// How a request is answered, by its head.
-pub fn manner_of(request: &Request<Octets>) -> Manner
+/// How a request is answered, by its head. Where its fields are known to be plain, the map isn't asked.
+pub fn manner_of(plain: bool, request: &Request<Octets>) -> Manner
+    requires { plain ≡ true → ArePlain (head_of request.now).headers }
     ensures closing { ClosesAfter (head_of request.now) result.closing }
     ensures chunks { result.chunks ≡ the_takes_chunks (head_of request.now) }
 {
     Manner {
-        closing: closes_after(request),
+        closing: closes_after(plain, request),
         chunks: takes_chunks(request),
     }
 }
 
 // Whether the connection closes behind the answer, whatever that is.
-fn closes_after(request: &Request<Octets>) -> bool
+fn closes_after(plain: bool, request: &Request<Octets>) -> bool
+    requires { plain ≡ true → ArePlain (head_of request.now).headers }
     ensures { ClosesAfter (head_of request.now) result }
 {
     if is_old(request.version()) {
         return true;
+    }
+    if plain {
+        return false;
     }
     asks_close(request.headers())
 }

@@ -1,9 +1,10 @@
 // Serving the requests of a source, one after the other.
-ghost use Rattle.std.specs.Prelude.{◌≡◌, ◌++◌, IfOk, OnErr, [], false};
+ghost use Rattle.std.specs.Prelude.{◌≡◌, ◌++◌, IfOk, OnErr, [], false, true};
 ghost use Rattle.http.specs.Request.{body_of, head_of};
 ghost use Rattle.dav_handler.specs.Player.{stage_of};
 ghost use Rattle.dav_local.specs.Shown.{knowledge_of};
 ghost use Rattle.dav_wire.specs.Answers.{refusal_text as the_refusal_text};
+ghost use Rattle.dav_wire.specs.Fields.{ArePlain};
 ghost use Rattle.dav_serve.specs.declared.ending.Ending.TheVariants.{Refused};
 ghost use Rattle.dav_serve.specs.Ends.{Exchanges, IsAnswerTo, MemoryStopped};
 ghost use Rattle.dav_serve.specs.Serving.{HoldsSoFar, EndsBy, ServedPartly, Starved, Finishes, ready, renewed, setup_by, setup_over};
@@ -73,13 +74,15 @@ fn player_over<D: Disk + Drop, R: Remember + Drop>(
 }
 
 // Answers the request that was read, by a player that starts over for it, so that no count of replies ever runs out.
-// The memory of the request's body is let go.
+// The memory of the request's body is let go. What is said of the request's fields is so.
 fn answer<K: Sink, D: Disk, R: Remember>(
     player: &mut Player<D, R>,
     held: &mut Held,
     sink: &mut K,
     now: Moment,
+    plain: bool,
 ) -> Result<Ended, NoMemory>
+    requires { plain ≡ true → ArePlain (head_of held.old.request).headers }
     ensures input { held.new.input ≡ held.old.input }
     ensures loan { D.loan player.new.store.disk ≡ D.loan player.old.store.disk }
     ensures ends { IfOk result (λ ended. Exchanges (IsAnswerTo (head_of held.old.request) (body_of held.old.request) now)
@@ -89,7 +92,7 @@ fn answer<K: Sink, D: Disk, R: Remember>(
         (work_of (K.stream sink.old) held.old.output (renewed (stage_of player.old)))
         (outlet_of (K.stream sink.new) held.new.output) (stage_of player.new).at) }
 {
-    let manner = manner_of(&held.request);
+    let manner = manner_of(plain, &held.request);
     player.renew();
     let ended = exchange(
         &mut held.spare,
@@ -159,9 +162,9 @@ fn answer_all<S: Client<K>, K: Sink, D: Disk, R: Remember, C: Clock>(
             sink,
             &mut held.request,
         ) {
-            Ok(Next::Whole) => {
+            Ok(Next::Whole(plain)) => {
                 let now = clock.now();
-                match answer(player, held, sink, now) {
+                match answer(player, held, sink, now, plain) {
                     Ok(Ended::Open) => {}
                     Ok(Ended::Closed) => return Ok(finish(&mut held.output, sink, Ending::Closed)),
                     Ok(Ended::SinkFailed) => return Ok(Ending::SinkFailed),

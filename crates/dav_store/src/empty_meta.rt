@@ -2,7 +2,7 @@ ghost use Rattle.std.specs.Prelude.{◌≡◌, false};
 ghost use Rattle.dav_store.specs.Void.{empty_in_years, empty_info, empty_time as the_empty_time};
 
 use dav_core::{DavMetaData, DavPath, FileTime, FsError};
-use dav_io::{NoMemory, Text};
+use dav_io::{FieldValue, NoMemory, Text};
 use std::alloc::Global;
 
 /// An empty file that was made and changed 959,652,000 seconds after 1970. Nothing else is known of it: it has no
@@ -75,8 +75,8 @@ impl DavMetaData for EmptyMetaData {
         Ok(None)
     }
 
-    fn push_tag(&self, _text: &mut Vec<u8>) -> Result<bool, NoMemory> {
-        Ok(false)
+    fn tag_value(&self, _alloc: Global) -> Result<Option<FieldValue>, NoMemory> {
+        Ok(None)
     }
 
     fn has_tag(&self, _tag: &[u8]) -> bool {

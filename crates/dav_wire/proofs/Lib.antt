@@ -3,6 +3,7 @@ pub mod Sizes
 pub mod Chunking
 pub mod FieldLemmas
 pub mod HeadLemmas
+pub mod PlainFields
 pub mod HeadsReadBack
 pub mod Refusals
 pub mod InTurn

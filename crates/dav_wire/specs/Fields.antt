@@ -1,6 +1,6 @@
 -- What a server asks of the fields of a request: whether the connection is to be closed (RFC 9110, sections 5.6.1 and
--- 7.6.1).
-use Rattle.std.specs.Prelude.{ℕ, Bool, ◌&&◌, ◌==◌, List, codes, bytes_eq, map, take, drop}
+-- 7.6.1), and whether any frames a body.
+use Rattle.std.specs.Prelude.{◌≡◌, ℕ, Bool, ◌&&◌, ◌||◌, ◌==◌, not, List, [], codes, bytes_eq, map, take, drop}
 use Rattle.std.specs.List.{list_any, list_all, slice_split}
 use Rattle.httparse.specs.Grammar.{is_ows, skip_ows}
 use Rattle.http_header.specs.FieldValue.{FieldValue}
@@ -30,3 +30,13 @@ names_close text = list_any is_close_member (members text)
 -- a member of a field `connection` is `close`
 abbrev pub asks_close : Entries FieldValue → Bool
 asks_close fields = list_any names_close (values_of fields (codes "connection"))
+
+-- No field announces a body or says what becomes of the connection: there is none of these three.
+pub record ArePlain (fields : Entries FieldValue) : Type 0 where
+  pub lengths : values_of fields (codes "content-length") ≡ []
+  pub codings : values_of fields (codes "transfer-encoding") ≡ []
+  pub connection : values_of fields (codes "connection") ≡ []
+
+-- no name of these three begins with the letter, in any case
+abbrev pub is_apart : ℕ → Bool
+is_apart letter = not ((letter == 99 || letter == 67) || (letter == 116 || letter == 84))

@@ -1,5 +1,5 @@
 -- The head of a request of the grammar, and the parts that `http` makes of it.
-use Rattle.std.specs.Prelude.{◌≡◌, ◌≤◌, ℕ, ◌==◌, if◌then◌else◌, List, [], map, length, drop, Option, Some, None, Result, Ok, Err}
+use Rattle.std.specs.Prelude.{◌≡◌, ◌≤◌, ℕ, ◌==◌, true, if◌then◌else◌, List, [], map, length, drop, Option, Some, None, Result, Ok, Err}
 use Rattle.http.specs.declared.request.Parts.{Parts}
 use Rattle.http.specs.declared.version.Version.{Version}
 use Rattle.http.specs.declared.version.TheConstants.Version.{HTTP_10, HTTP_11}
@@ -11,7 +11,9 @@ use Rattle.http_uri.specs.Uri.{Spells}
 use Rattle.httparse.specs.Grammar.{Field, field_value, RequestHead, print_request, ReadsRequest, HasNoRequest, MayBecomeRequest}
 use Rattle.httparse.specs.Spans.{header_bytes}
 use Rattle.httparse.specs.declared.spans.HeaderSpan.{HeaderSpan}
+use Rattle.dav_wire.specs.Fields.{ArePlain}
 use Rattle.dav_wire.specs.Requests.{Refusal}
+use Rattle.dav_wire.specs.declared.head.Head.{Head}
 use Rattle.dav_wire.specs.declared.head.PartError.{PartError}
 use Rattle.dav_wire.specs.declared.head.PartError.TheVariants.{Refused, NoMemory}
 
@@ -50,10 +52,11 @@ pub record IsReadAt (buf : List ℕ) (len : ℕ) (parts : Parts) : Type 0 where
   pub few : length head.fields ≤ 256
   pub parts_are : IsRead head parts
 
--- ---- what is read at the front of a buffer of at most 65,536 bytes: how many of them a head takes, and its parts
+-- ---- what is read at the front of a buffer of at most 65,536 bytes: how many of them a head takes, and its parts; and
+-- where its fields are told as plain, they are
 
-abbrev pub Parses : List ℕ → Result (Option ℕ) PartError → Parts → Type 0
-Parses buf (Ok (Some len)) parts = IsReadAt buf len parts
+abbrev pub Parses : List ℕ → Result (Option Head) PartError → Parts → Type 0
+Parses buf (Ok (Some head)) parts = IsReadAt buf head.len parts × (head.plain ≡ true → ArePlain parts.headers)
 Parses buf (Ok None) parts = HasNoRequest buf × MayBecomeRequest buf
 Parses buf (Err Refused) parts = Refusal buf
 Parses buf (Err NoMemory) parts = Unit {0}

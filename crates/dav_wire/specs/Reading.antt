@@ -22,7 +22,7 @@ pub record Pending : Type 0 where
 -- What stands at the front of the bytes that are held; only a request is passed, and the parts are its. Otherwise more
 -- bytes are wanted: of these at most 65,536 no front is a head.
 abbrev pub Finds : List ℕ → Result Found NoMemory → Parts → List ℕ → Type 0
-Finds held (Ok Whole) parts rest = (head : RequestHead) × IsRequest held head rest × IsRead head parts
+Finds held (Ok (Whole plain)) parts rest = (head : RequestHead) × IsRequest held head rest × IsRead head parts
 Finds held (Ok FoundRefused) parts rest = Refusal held × (rest ≡ held)
 Finds held (Ok More) parts rest = (rest ≡ held) × (length held ≤ 65536) × HasNoRequest held × MayBecomeRequest held
 Finds held (Err e) parts rest = rest ≡ held

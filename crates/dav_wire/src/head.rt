@@ -1,5 +1,5 @@
 //! The head of a request, read from the front of a buffer.
-ghost use Rattle.std.specs.Prelude.{◌≡◌, ◌≤◌, ◌<◌, [], map, length, All, Err, IfOk, OnOk};
+ghost use Rattle.std.specs.Prelude.{◌≡◌, ◌≤◌, ◌<◌, [], map, length, slice_index, true, All, Err, IfOk, Ok, OnOk};
 ghost use Rattle.http.specs.Request.{head_of};
 ghost use Rattle.http_header.specs.FieldName.{IsFieldName};
 ghost use Rattle.http_header.specs.FieldValue.{IsFieldValue, plain_value};
@@ -7,6 +7,7 @@ ghost use Rattle.http_header.specs.HeaderMap.{append, append_all, value_count};
 ghost use Rattle.http_header.specs.Token.{IsToken, lowercase};
 ghost use Rattle.http_uri.specs.Uri.{Spells, SpellsNone};
 ghost use Rattle.httparse.specs.Spans.{IsHeaderWithin, IsWithin, header_bytes, span_bytes, IsRequestWithin, IsRequestOf};
+ghost use Rattle.dav_wire.specs.Fields.{ArePlain, is_apart};
 ghost use Rattle.dav_wire.specs.Heads.{IsReadAt, IsField, kept_span, version_of, Parses};
 ghost use Rattle.dav_wire.specs.Requests.{Refusal};
 ghost use Rattle.dav_wire.specs.declared.head.PartError.TheVariants.{Refused};
@@ -28,14 +29,22 @@ pub enum PartError {
     NoMemory,
 }
 
-// Reads the head at the front of a buffer into a request, in place of what that had, and answers how many bytes it takes;
-// or nothing where more bytes may make one. The memory of the fields that the request had is used again.
+// A head that was read: how many bytes it takes, and whether its fields are known to be plain.
+#[derive(Clone, Copy, Debug, PartialEq, Eq)]
+pub struct Head {
+    pub len: usize,
+    pub plain: bool,
+}
+
+// Reads the head at the front of a buffer into a request, in place of what that had, and answers how many bytes it takes
+// and what is known of its fields; or nothing where more bytes may make one. The memory of the fields that the request had
+// is used again.
 pub fn read_head(
     alloc: Global,
     buf: &[u8],
     spans: &mut [HeaderSpan],
     request: &mut Request<Octets>,
-) -> Result<Option<usize>, PartError>
+) -> Result<Option<Head>, PartError>
     requires short { length buf.now ≤ 65536 }
     requires room { length spans.old ≡ 256 }
     ensures { Parses buf.now result (head_of request.new) }
@@ -44,7 +53,7 @@ pub fn read_head(
         Ok(Status::Complete(head)) => {
             let len = head.len;
             match read_parts(alloc, buf, spans, head, request) {
-                Ok(()) => Ok(Some(len)),
+                Ok(plain) => Ok(Some(Head { len, plain })),
                 Err(PartError::Refused) => Err(PartError::Refused),
                 Err(PartError::NoMemory) => Err(PartError::NoMemory),
             }
@@ -54,20 +63,21 @@ pub fn read_head(
     }
 }
 
-// Reads the parts of a head, from where they stand in the buffer, into a request. What its target and its values say
-// shares one copy of it.
+// Reads the parts of a head, from where they stand in the buffer, into a request, and answers whether its fields are
+// known to be plain. What its target and its values say shares one copy of it.
 fn read_parts(
     alloc: Global,
     buf: &[u8],
     spans: &[HeaderSpan],
     head: RequestSpans,
     request: &mut Request<Octets>,
-) -> Result<(), PartError>
+) -> Result<bool, PartError>
     requires short { length buf.now ≤ 65536 }
     requires room { length spans.now ≤ 256 }
     requires within { IsRequestWithin buf.now spans.now head }
     requires complete { IsRequestOf buf.now spans.now head }
     ensures ok { OnOk result (IsReadAt buf.now head.len (head_of request.new)) }
+    ensures plain { result ≡ Ok true → ArePlain (head_of request.new).headers }
     ensures refused { result ≡ Err Refused → Refusal buf.now }
 {
     let front = &buf[..head.len];
@@ -90,7 +100,7 @@ fn read_parts(
         &spans[..head.headers],
         request.headers_mut(),
     ) {
-        Ok(()) => Ok(()),
+        Ok(plain) => Ok(plain),
         Err(_) => Err(PartError::NoMemory),
     }
 }
@@ -142,28 +152,43 @@ fn part_of(whole: &Bytes, span: Span) -> Result<Bytes, NoMemory>
     Ok(part)
 }
 
-// Reads the fields of a head into a map, in place of those that it had. Their values share one copy of it.
+// Reads the fields of a head into a map, in place of those that it had, and answers whether they are known to be plain:
+// the first letters of their names tell it of most requests, for less than a look into the map. Their values share one
+// copy of the head.
 fn read_fields(
     alloc: Global,
     buf: &[u8],
     whole: &Bytes,
     spans: &[HeaderSpan],
     headers: &mut HeaderMap,
-) -> Result<(), NoMemory>
+) -> Result<bool, NoMemory>
     requires copied { whole.now ≡ buf.now }
     requires few { length spans.now ≤ 256 }
     requires within { All (IsHeaderWithin (length buf.now)) spans.now }
     requires fields { All (λ span. IsField (header_bytes buf.now span)) spans.now }
-    ensures { OnOk result (headers.new ≡ append_all [] (map (kept_span buf.now) spans.now)) }
+    ensures ok { OnOk result (headers.new ≡ append_all [] (map (kept_span buf.now) spans.now)) }
+    ensures plain { result ≡ Ok true → ArePlain headers.new }
 {
     headers.clear();
     if headers.reserve(spans.len()).is_err() {
         return Err(NoMemory);
     }
+    let mut plain = true;
     for span in spans {
+        if !begins_apart(span.name.of(buf)) {
+            plain = false;
+        }
         add_span(alloc, headers, buf, whole, *span)?;
     }
-    Ok(())
+    Ok(plain)
+}
+
+// Does the name begin with another letter than those of the fields that announce a body or a close, in any case?
+fn begins_apart(name: &[u8]) -> bool
+    requires { 0 < length name.now }
+    ensures { result ≡ is_apart (slice_index name.now 0) }
+{
+    !matches!(name[0], b'c' | b'C' | b't' | b'T')
 }
 
 // Adds the field that two spans cover. Its value is a part of the copy.

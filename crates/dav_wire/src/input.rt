@@ -1,8 +1,10 @@
 //! The bytes of an input that were taken from its source and not yet passed.
-ghost use Rattle.std.specs.Prelude.{◌≡◌, ◌≤◌, ◌^◌, [], drop, length, IfOk};
+ghost use Rattle.std.specs.Prelude.{◌≡◌, ◌≤◌, ◌^◌, [], drop, length, true, IfOk, Ok};
 ghost use Rattle.dav_io.specs.Outside.{Stream};
 ghost use Rattle.http.specs.Request.{head_of};
+ghost use Rattle.dav_wire.specs.Fields.{ArePlain};
 ghost use Rattle.dav_wire.specs.Reading.{Finds, Fills};
+ghost use Rattle.dav_wire.specs.declared.next.Found.TheVariants.{Whole};
 
 use crate::buffer::{ask_at, move_front, take_at};
 use crate::head::{PartError, read_head};
@@ -131,22 +133,24 @@ impl Input {
     }
 
     /// What stands at the front of the bytes held. It asks no source. A whole head is passed, and read into the request
-    /// in place of what that had; otherwise no byte is passed, and the request may have anything.
+    /// in place of what that had, and what is said of its fields is so; otherwise no byte is passed, and the request may
+    /// have anything.
     pub fn next_head(
         &mut self,
         alloc: Global,
         request: &mut Request<Octets>,
     ) -> Result<Found, NoMemory>
         ensures finds { Finds self.old.bytes result (head_of request.new) self.new.bytes }
+        ensures plain { result ≡ Ok (Whole true) → ArePlain (head_of request.new).headers }
         ensures taken { self.new.taken ≡ self.old.taken }
         ensures within { self.old.taken ≤ 2 ^ 60 }
     {
         let len = (self.end - self.start).min(LONGEST);
         let front = &self.buffer[self.start..self.start + len];
         match read_head(alloc, front, &mut self.spans, request) {
-            Ok(Some(used)) => {
-                self.start += used;
-                Ok(Found::Whole)
+            Ok(Some(head)) => {
+                self.start += head.len;
+                Ok(Found::Whole(head.plain))
             }
             Ok(None) => {
                 if len < self.end - self.start {

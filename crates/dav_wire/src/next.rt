@@ -10,8 +10,9 @@ use thiserror::Error;
 /// What stands at the front of the bytes that are held.
 #[derive(Clone, Copy, Debug, PartialEq, Eq)]
 pub enum Found {
-    /// A whole head, which was passed.
-    Whole,
+    /// A whole head, which was passed. Where this is true, it has none of the fields `content-length`,
+    /// `transfer-encoding` and `connection`; where it is false, it may have some.
+    Whole(bool),
     /// No request can stand there: 400 is owed.
     Refused,
     /// More bytes are wanted.

@@ -37,7 +37,7 @@ pub fn next(
 ) -> Seen {
     for _ in 0..CALLS {
         match input.next_head(alloc, request) {
-            Ok(Found::Whole) => return Seen::Request,
+            Ok(Found::Whole(_)) => return Seen::Request,
             Ok(Found::Refused) => return Seen::Over("refused"),
             Ok(Found::More) => match input.fill(source) {
                 Ok(0) => return Seen::Over(end_of(input)),

@@ -1,13 +1,6 @@
-use Rattle.std.proofs.Common.{rules, ◌++◌, ◌∷◌, [], ap, ap₂, ◌∙◌, subst, sym}
-use Rattle.std.specs.List.{AllByRecursion}
-use Rattle.dav_page.specs.Listed.{HasPlainName}
-use Rattle.dav_page.proofs.PageMade.{index_made, index_sound, plain_each, plain_listed}
+use Rattle.std.proofs.Common.{rules, ◌++◌, ◌∷◌, [], ap, ap₂, ◌∙◌}
+use Rattle.dav_page.proofs.PageMade.{index_made, index_sound, plain_each}
 use Rattle.dav_page.proofs.index.index_page.Goals as goal
-
-pub push_rows-requires : goal.push_rows-requires
-push_rows-requires c =
-    subst (AllByRecursion HasPlainName) (sym c.as_slice.ensures.value)
-    (plain_listed c.args.members.items c.in_ok-members.members.items (plain_each c.args.members.items c.requires) c.in_ok-members.ensures.each_once)
 
 pub returns-clause-page : goal.returns-clause-page
 returns-clause-page c =

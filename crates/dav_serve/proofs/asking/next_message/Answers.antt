@@ -1,29 +1,33 @@
-use Rattle.std.proofs.Common.{ℕ, [], sym}
+use Rattle.std.proofs.Common.{ℕ, [], rules, sym, ◌∙◌}
 use Rattle.http.specs.Request.{head_of}
 use Rattle.dav_wire.specs.declared.next.BodyRead.{BodyRead}
 use Rattle.dav_serve.specs.declared.asking.Next.{Next}
-use Rattle.dav_serve.proofs.NextIsRead.{begins, body_fails, body_read, body_reads, body_wants, fill_reads, head_fails, head_more, head_over, head_refused, head_starved, reads_then, sends_not, sends_then, wants}
+use Rattle.dav_serve.proofs.NextIsRead.{begins, body_fails, body_read, body_reads, body_wants, fill_reads, head_fails, head_more, head_over, head_refused, head_starved, reads_then, sends_not, sends_then, told_plain, wants}
 use Rattle.dav_serve.proofs.asking.next_message.Goals as goal
 
 pub read_body-requires : goal.read_body-requires
 read_body-requires g c = record {
   ready = λ passed kept left written later on unfinished none pushes.
-      let b = begins (rw c.in-Ok-Whole.field-0-is at c.in-Ok-Whole.ensures.finds) c.in-Ok-Whole.ensures.taken c.announced_by-announced.ensures in
+      let b = begins c.in-Ok-Whole.plain (rw c.in-Ok-Whole.field-0-is at c.in-Ok-Whole.ensures.finds) c.in-Ok-Whole.ensures.taken c.announced_where-announced.ensures in
       c.heads.invariant.may left written
       (c.requires.ready _ kept left written later (body_reads b c.heads.invariant.reads on) (body_wants b on unfinished) none (sends_then c.heads.invariant.sent pushes));
 }
 
 pub returns-in-Ok-clause-reads : goal.returns-in-Ok-clause-reads
-returns-in-Ok-clause-reads g c = body_read c.in-Ok.read c.next_by.result c.next_by.new.request
-    (rw c.next_by.ensures.head (begins (rw c.in-Ok-Whole.field-0-is at c.in-Ok-Whole.ensures.finds) c.in-Ok-Whole.ensures.taken c.announced_by-announced.ensures))
+returns-in-Ok-clause-reads g c = body_read c.in-Ok-Whole.plain c.in-Ok.read c.next_by.result c.next_by.new.request
+    (rw c.next_by.ensures.head (begins c.in-Ok-Whole.plain (rw c.in-Ok-Whole.field-0-is at c.in-Ok-Whole.ensures.finds) c.in-Ok-Whole.ensures.taken c.announced_where-announced.ensures))
     c.heads.invariant.reads c.in-Ok.ensures.reads c.next_by.ensures.next c.next_by.ensures.body
+
+pub returns-in-Ok-clause-plain : goal.returns-in-Ok-clause-plain
+returns-in-Ok-clause-plain g c = λ same.
+    rw c.next_by.ensures.head (told_plain _ c.in-Ok.read (λ plain. c.in-Ok-Whole.ensures.plain (search (rules, plain))) (sym c.next_by.ensures.next ∙ search (rules, same)))
 
 pub returns-in-Ok-clause-sends : goal.returns-in-Ok-clause-sends
 returns-in-Ok-clause-sends g c = sends_then c.heads.invariant.sent c.in-Ok.ensures.sends
 
 pub returns-in-Err-read_body-clause-reads : goal.returns-in-Err-read_body-clause-reads
 returns-in-Err-read_body-clause-reads g c = body_fails c.in-Err-read_body.error _
-    (begins (rw c.in-Ok-Whole.field-0-is at c.in-Ok-Whole.ensures.finds) c.in-Ok-Whole.ensures.taken c.announced_by-announced.ensures)
+    (begins c.in-Ok-Whole.plain (rw c.in-Ok-Whole.field-0-is at c.in-Ok-Whole.ensures.finds) c.in-Ok-Whole.ensures.taken c.announced_where-announced.ensures)
     c.heads.invariant.reads c.in-Err-read_body.ensures.reads
 
 pub returns-in-Err-read_body-clause-sends : goal.returns-in-Err-read_body-clause-sends

@@ -38,7 +38,7 @@ returns-in-Ok-read_fields-clause-ok c =
         uri = subst (λ (text : List ℕ). Spells text c.in-Ok-read_target.uri) (span_same c.args.buf.now _ _ c.args.head.path c.in-Ok.ensures c.requires.within.path ∙ at.path) c.in-Ok-read_target.ensures.ok;
         version = rw (← at.version) c.version.ensures;
         headers =
-            c.in-Ok-read_fields.ensures
+            c.in-Ok-read_fields.ensures.ok
             ∙ ap (append_all []) (kept_alike _ _ _ (front_same c.args.buf.now _ _ c.requires.within.section.headers_fit ∙ at.fields));
       };
     }

@@ -1,4 +1,4 @@
-use Rattle.std.proofs.Common.{ap, sym, ◌∙◌, subst, arith, List, ℕ, ◌≤◌, length, drop}
+use Rattle.std.proofs.Common.{ap, sym, rules, ◌∙◌, subst, arith, List, ℕ, ◌≤◌, length, drop}
 use Rattle.http.specs.Request.{head_of}
 use Rattle.dav_wire.specs.Reading.{Pending}
 use Rattle.dav_wire.specs.Requests.{IsRequest}
@@ -19,12 +19,15 @@ pub returns-in-Ok-Some-clause-finds : goal.returns-in-Ok-Some-clause-finds
 returns-in-Ok-Some-clause-finds c =
     let held = ap (λ (p : Pending). p.bytes) c.self.view_is in
     let front = held_front _ _ _ _ _ _ c.deref.ensures.value c.min-len.ensures held in
-    let read = rw c.in-Ok-Some.field-0-is at c.in-Ok-Some.ensures in
+    let read = (rw c.in-Ok-Some.field-0-is at c.in-Ok-Some.ensures).0 in
     let size = held_len c.self.inside.buffer.items c.args.self.now.bytes c.self.inside.start c.self.inside.end held (omega arith) (omega arith) in
     let fits = whole_fits _ _ _ _ front read in
-    let behind = held_behind c.self.inside.buffer.items c.self.inside.start c.self.inside.end c.in-Ok-Some.used (omega arith) ∙ ap (drop c.in-Ok-Some.used) held in
+    let behind = held_behind c.self.inside.buffer.items c.self.inside.start c.self.inside.end c.in-Ok-Some.head.len (omega arith) ∙ ap (drop c.in-Ok-Some.head.len) held in
     subst (λ (rest : List ℕ). (x : RequestHead) × IsRequest c.args.self.now.bytes x rest × IsRead x (head_of c.read_head.new.request)) (sym behind)
     (finds_whole _ _ _ _ front read)
+
+pub returns-in-Ok-Some-clause-plain : goal.returns-in-Ok-Some-clause-plain
+returns-in-Ok-Some-clause-plain c = λ same. (rw c.in-Ok-Some.field-0-is at c.in-Ok-Some.ensures).1 (search (rules, same))
 
 pub returns-else-len-self-clause-finds : goal.returns-else-len-self-clause-finds
 returns-else-len-self-clause-finds c =
