@@ -2,7 +2,7 @@
 use Rattle.std.proofs.Common.{◌≡◌, ℕ, ◌≤◌, ◌+◌, ◌-◌, Bool, true, false, List, [], ◌∷◌, ◌++◌, length, take, refl, sym, ap, subst, ◌∙◌, arith, take_all, length-append}
 use Rattle.std.specs.List.{IsDistinct, AllByRecursion}
 use Rattle.std.specs.Map.{keys_of, remove_entry}
-use Rattle.dav_cache.specs.Entries.{without, put}
+use Rattle.dav_memory.specs.Entries.{without, put}
 
 module _ {K X : Type 0} (eq : K → K → Bool) (exact : (a b : K) → eq a b ≡ true → a ≡ b) (k : K) where
   pub none-without : (es : List (K × X)) → AllByRecursion (λ y. eq k y ≡ false) (keys_of es) → without (eq k) es ≡ es

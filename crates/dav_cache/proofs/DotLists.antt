@@ -5,9 +5,9 @@ use Rattle.std.specs.Map.{keys_of, remove_entry}
 use Rattle.std.proofs.Math.Seq.{take-suc}
 use Rattle.std.proofs.lemmas.Bool.{cases_Bool, false≢true, true≢false, and_parts, or_cases, lt-ltb, le-ltb}
 use Rattle.lru.specs.LruCache.{LruCache, lru_cache, put_entries}
-use Rattle.dav_cache.specs.Trees.{Name, Names, same_name, is_after, is_less}
-use Rattle.dav_cache.specs.Entries.{DuKey, DuEntry, Dots, Listed, AreCounted, without, put, dir_key, same_key, put_name, put_dir, put_names, some_put, sealed, is_rising}
-use Rattle.dav_cache.proofs.Keys.{key_decides, name_decides}
+use Rattle.dav_memory.specs.Trees.{Name, Names, same_name, is_after, is_less}
+use Rattle.dav_memory.specs.Entries.{DuKey, DuEntry, Dots, Listed, AreCounted, without, put, dir_key, same_key, put_name, put_dir, put_names, some_put, sealed, is_rising}
+use Rattle.dav_memory.proofs.Keys.{key_decides, name_decides}
 use Rattle.dav_cache.proofs.Bridge.{put-fresh}
 use Rattle.dav_cache.proofs.Lru.{removed_is, put_is}
 use Rattle.dav_cache.proofs.Order.{less_itself, after_trans}

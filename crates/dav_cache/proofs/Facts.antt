@@ -3,14 +3,14 @@ use Rattle.std.proofs.Common.{Contains, ◌≡◌, ℕ, ◌<◌, ◌≤◌, ◌|
 use Rattle.std.specs.Prelude.{pos}
 use Rattle.std.specs.List.{list_any, filter}
 use Rattle.std.proofs.lemmas.Bool.{cases_Bool, false≢true, true≢false, or_cases}
-use Rattle.dav_cache.specs.Trees.{Name, Names, FileTime, Tree, same_name, is_dot, is_after, is_less, next_name, names_in}
-use Rattle.dav_cache.specs.Entries.{Dots, Listed, IsCounted, AreCounted, is_old_dot, dir_key, same_key}
+use Rattle.dav_memory.specs.Trees.{Name, Names, FileTime, Tree, same_name, is_dot, is_after, is_less, next_name, names_in}
+use Rattle.dav_memory.specs.Entries.{Dots, Listed, IsCounted, AreCounted, is_old_dot, dir_key, same_key}
 use Rattle.dav_cache.specs.Core.{Event, State, Place, Turn, Listing, time_told, given, lists_next, turn, step, run, start}
 use Rattle.dav_cache.specs.declared.place.Place.TheVariants.{Idle, Peeked, Passed, Lists, Ended}
-use Rattle.dav_cache.proofs.Lists.{purged-take}
+use Rattle.dav_memory.proofs.Lists.{purged-take}
 use Rattle.dav_cache.proofs.Places.{get-replicate}
 use Rattle.dav_cache.specs.Transparency.{AllBelow, Falling, Numbers, AllNumbered, HoldsNumber, FactsAreKept, fits}
-use Rattle.dav_cache.proofs.Keys.{name_decides}
+use Rattle.dav_memory.proofs.Keys.{name_decides}
 use Rattle.dav_cache.proofs.Order.{less_itself, after_trans, least_is, any-push, any-filter}
 use Rattle.dav_cache.proofs.Dots.{below-take, below-without, below-lookup, falling-take, falling-without, seals}
 use Rattle.dav_cache.proofs.Numbers.{numbered-lookup, numbered-take, numbered-without, numbered-sealed, numbered-like, with_number, with_number-own, with_number-other}

@@ -10,7 +10,7 @@ use Rattle.ucd_case.specs.CaseFolding.{full_folding, full_fold, or_itself}
 use Rattle.ucd_case.proofs.CaseFoldingLemmas.{full_folding_stepped}
 use Rattle.ucd_table.proofs.RangedFacts.{values_ok, Stepped-at_values}
 use Rattle.ucd_table.proofs.Computing.{tables}
-use Rattle.dav_cache.specs.Trees.{Name, Names, fold_name, fold_path}
+use Rattle.dav_memory.specs.Trees.{Name, Names, fold_name, fold_path}
 
 -- ---- the characters of a folding are scalars
 

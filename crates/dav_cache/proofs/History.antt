@@ -1,7 +1,7 @@
 -- A caller's place tells its own last events.
 use Rattle.std.proofs.Common.{◌≡◌, ℕ, Bool, true, false, not, ◌&&◌, List, [], ◌∷◌, ◌++◌, Some, if◌then◌else◌, refl, sym, ap, subst, ◌∙◌, inl, inr, slice_get, append_assoc}
 use Rattle.std.proofs.lemmas.List.{append-nil}
-use Rattle.dav_cache.specs.Trees.{Name, Names, FileTime, Tree}
+use Rattle.dav_memory.specs.Trees.{Name, Names, FileTime, Tree}
 use Rattle.dav_cache.specs.Core.{Event, State, Place, Told, Turn, turn, step, told, run, start}
 use Rattle.dav_cache.specs.declared.event.Event.TheVariants.{Ask, Peek, Check, Find, Get}
 use Rattle.dav_cache.specs.declared.place.Place.TheVariants.{Idle, Asked, Peeked, Passed, Failed, Begun, Lists, Ended, Finding, Got, Missed}

@@ -2,12 +2,12 @@
 use Rattle.std.proofs.Common.{◌≡◌, ◌≢◌, ℕ, ◌<◌, ◌≤◌, true, not, ◌&&◌, ◌||◌, List, Option, Some, None, refl, ap, ◌∙◌, arith, inl, inr, ◌⊎◌, IsTrue, Contains, slice_get}
 use Rattle.std.specs.Map.{lookup}
 use Rattle.std.specs.List.{list_any}
-use Rattle.dav_cache.specs.Trees.{Name, Names, FileTime, Tree, same_name, is_dot, is_after, has_name, time_of}
-use Rattle.dav_cache.specs.Entries.{DuEntry, dir_key, same_key}
+use Rattle.dav_memory.specs.Trees.{Name, Names, FileTime, Tree, same_name, is_dot, is_after, has_name, time_of}
+use Rattle.dav_memory.specs.Entries.{DuEntry, dir_key, same_key}
 use Rattle.dav_cache.specs.Core.{State, Place, Listing, settled}
 use Rattle.dav_cache.specs.declared.place.Place.TheVariants.{Idle, Asked, Peeked, Passed, Failed, Begun, Lists, Ended, Finding, Got, Missed}
 use Rattle.dav_cache.specs.Transparency.{SoundAt, SameNames, IsListing}
-use Rattle.dav_cache.proofs.Keys.{time_tells}
+use Rattle.dav_memory.proofs.Keys.{time_tells}
 use Rattle.dav_cache.proofs.Dots.{AllBelow, Falling}
 use Rattle.dav_cache.proofs.Order.{HasUpTo}
 

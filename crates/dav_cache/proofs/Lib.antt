@@ -1,5 +1,3 @@
-pub mod Keys
-pub mod Lists
 pub mod Dots
 pub mod Numbers
 pub mod Order
@@ -22,9 +20,7 @@ pub mod DotLists
 pub mod Members
 pub mod Rising
 pub mod MemoryCalls
-pub mod Keeping
 pub mod Binding
 pub mod Fitting
 pub mod Standing
 pub mod Premises
-mod AsciiFolding

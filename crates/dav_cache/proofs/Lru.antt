@@ -6,9 +6,9 @@ use Rattle.std.specs.Map.{keys_of, lookup, lookup_entry, remove_entry}
 use Rattle.lru.specs.LruCache.{lru_cache, put_entries, last_entry, promoted as to_front}
 use Rattle.lru.proofs.CallerLemmas.{Contains-lookup_entry}
 use Rattle.lru.proofs.Pairs.{cut_end, last_of_push, lookup-lookup_entry}
-use Rattle.dav_cache.specs.Entries.{without, put, purged}
+use Rattle.dav_memory.specs.Entries.{without, put, purged}
 use Rattle.dav_cache.proofs.Bridge.{remove-without}
-use Rattle.dav_cache.proofs.Lists.{purged-old, purged-young}
+use Rattle.dav_memory.proofs.Lists.{purged-old, purged-young}
 
 -- the entry of a key first, where there is one
 abbrev pub front_of : {K X : Type 0} → (K → K → Bool) → K → Option X → List (K × X) → List (K × X)

@@ -1,6 +1,6 @@
 -- A path has a last name in a directory only where it is one name longer.
 use Rattle.std.proofs.Common.{◌≡◌, ◌≤◌, ◌<◌, ◌+◌, [], ◌∷◌, length, None, true, false, refl, arith}
-use Rattle.dav_cache.specs.Trees.{Names, same_name, member_name}
+use Rattle.dav_memory.specs.Trees.{Names, same_name, member_name}
 
 pub member_short : (dir path : Names) → length path ≤ length dir → member_name dir path ≡ None
 member_short [] [] le = refl

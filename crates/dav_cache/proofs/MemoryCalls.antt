@@ -10,14 +10,14 @@ use Rattle.dav_core.specs.declared.handle.Meta.{Meta}
 use Rattle.dav_core.specs.declared.handle.DiskError.{DiskError}
 use Rattle.dav_core.specs.Disk.{DiskState, Metas}
 use Rattle.dav_core.specs.Tree.{is_dir}
-use Rattle.dav_cache.specs.declared.du_cache.Sealed.{Sealed}
-use Rattle.dav_cache.specs.declared.du_cache.Sealed.TheVariants.{Done, Last, NoMemory}
-use Rattle.dav_cache.specs.Trees.{Name, Names, FileTime, same_name, same_path, fold_path}
-use Rattle.dav_cache.specs.Entries.{DuKey, DuEntry, Dots, Listed, PathEntry, PathCache, DotCache, AreCounted, Falling, without, put, purged, inserted, is_old_dot, is_old_path, dir_key, name_key, same_key, stands, concludes, is_time, put_name, put_dir, put_names, sealed}
-use Rattle.dav_cache.specs.Calls.{LooksBy, Denies, Seals, has_time, dropped, sealed_within}
-use Rattle.dav_cache.specs.Memory.{OwnedState, memory_of, known_at, known_by, WasKnown, LearnsNothing, AsksMeta, AsksOnceBy, Denied, GetsBy, Inserts, Negates, SealsIn, Purges}
-use Rattle.dav_cache.proofs.Keys.{time_decides, is_time_at, time_tells, path_tells, dir≢name, same_dir}
-use Rattle.dav_cache.proofs.Lists.{lookup-without_same, lookup-take, purged-take}
+use Rattle.dav_memory.specs.declared.sealed.Sealed.{Sealed}
+use Rattle.dav_memory.specs.declared.sealed.Sealed.TheVariants.{Done, Last, NoMemory}
+use Rattle.dav_memory.specs.Trees.{Name, Names, FileTime, same_name, same_path, fold_path}
+use Rattle.dav_memory.specs.Entries.{DuKey, DuEntry, Dots, Listed, PathEntry, PathCache, DotCache, AreCounted, Falling, without, put, purged, inserted, is_old_dot, is_old_path, dir_key, name_key, same_key, stands, concludes, is_time, put_name, put_dir, put_names, sealed}
+use Rattle.dav_memory.specs.Calls.{LooksBy, Denies, Seals, has_time, dropped, sealed_within}
+use Rattle.dav_memory.specs.Memory.{OwnedState, memory_of, known_at, known_by, WasKnown, LearnsNothing, AsksMeta, AsksOnceBy, Denied, GetsBy, Inserts, Negates, SealsIn, Purges}
+use Rattle.dav_memory.proofs.Keys.{time_decides, is_time_at, time_tells, path_tells, dir≢name, same_dir}
+use Rattle.dav_memory.proofs.Lists.{lookup-without_same, lookup-take, purged-take}
 use Rattle.dav_cache.proofs.Dots.{IsApart, dir≢, name≢, lookup-away, lookup-past, stands-take, falling-without, Sealing, sealing-put_dir, sealing-put_name, sealing-put_names}
 use Rattle.dav_cache.proofs.Facts.{nothing_known}
 

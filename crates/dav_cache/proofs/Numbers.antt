@@ -2,10 +2,10 @@
 use Rattle.std.proofs.Common.{◌≡◌, ℕ, zero, suc, ◌<◌, ◌-◌, ◌==◌, nat_lt, Bool, true, false, List, [], ◌∷◌, length, take, Some, None, if◌then◌else◌, refl, sym, ap, ◌∙◌, arith, inl, inr}
 use Rattle.std.specs.Map.{lookup}
 use Rattle.std.proofs.lemmas.Bool.{eq-eqb, ne_eqb}
-use Rattle.dav_cache.specs.Trees.{Name, Names, FileTime}
-use Rattle.dav_cache.specs.Entries.{Dots, DuKey, DuEntry, Listed, AllBelow, same_key, dir_key, name_key, put, without, put_name, put_names, put_dir, sealed}
+use Rattle.dav_memory.specs.Trees.{Name, Names, FileTime}
+use Rattle.dav_memory.specs.Entries.{Dots, DuKey, DuEntry, Listed, AllBelow, same_key, dir_key, name_key, put, without, put_name, put_names, put_dir, sealed}
 use Rattle.dav_cache.specs.Transparency.{Numbers, AllNumbered}
-use Rattle.dav_cache.proofs.Keys.{key_tells}
+use Rattle.dav_memory.proofs.Keys.{key_tells}
 
 -- ---- a table with one more number
 

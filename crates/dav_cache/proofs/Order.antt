@@ -8,33 +8,15 @@ use Rattle.std.proofs.lemmas.Bool.{cases_Bool, false≢true, true≢false, and_p
 use Rattle.std.proofs.lemmas.Cmp.{tied_itself}
 use Rattle.std.proofs.Math.Bool.{and-true}
 use Rattle.dav_io.proofs.Cases.{less_is}
-use Rattle.dav_cache.specs.Trees.{Name, Names, Tree, same_name, is_less, is_dot, is_after, lesser, least, next_name, names_in, has_name}
+use Rattle.dav_memory.specs.Trees.{Name, Names, Tree, same_name, is_less, is_dot, is_after, lesser, least, next_name, names_in, has_name}
 use Rattle.dav_cache.specs.Core.{Listing, given}
 pub use Rattle.dav_cache.specs.Transparency.{HasUpTo}
-use Rattle.dav_cache.proofs.Keys.{name_decides, name_tells}
+use Rattle.dav_memory.proofs.Keys.{name_decides, name_tells}
+use Rattle.dav_memory.proofs.Order.{less_itself, less_trans, less_other, any_front, any_cases, any-push}
 
 pub and_false : (b : Bool) → false ≡ (b && false)
 and_false true = refl
 and_false false = refl
-
--- ---- the order of names
-
-exact : (a b : Name) → slice_cmp nat_cmp a b ≡ Equal → a ≡ b
-exact a b h = (name_decides a b).0 (sym (is_eq-slice_cmp a b) ∙ ap is_eq h)
-
-pub less_itself : (a : Name) → is_less a a ≡ false
-less_itself a = ap is_lt (tied_itself nat_list_cmp_total a)
-
-pub less_trans : (a b c : Name) → is_less a b ≡ true → is_less b c ≡ true → is_less a c ≡ true
-less_trans a b c p q = ap is_lt (nat_list_cmp_total.trans a b c (less_is _ p) (less_is _ q))
-
-pub less_other : (a b : Name) → is_less a b ≡ false → (a ≡ b) ⊎ (is_less b a ≡ true)
-less_other a b h = by_order (slice_cmp nat_cmp a b) refl
-  where
-    by_order : (o : Ordering) → slice_cmp nat_cmp a b ≡ o → (a ≡ b) ⊎ (is_less b a ≡ true)
-    by_order Less e = absurd (true≢false (sym (ap is_lt e) ∙ h))
-    by_order Equal e = inl (exact a b e)
-    by_order Greater e = inr (ap is_lt (nat_list_cmp_total.antisymm b a ∙ ap ordering_reverse e))
 
 pub after_trans : (last : Option Name) (a b : Name) → is_after last a ≡ true → is_less a b ≡ true → is_after last b ≡ true
 after_trans None a b p q = refl
@@ -46,15 +28,9 @@ after_trans (Some l) a b p q = less_trans l a b p q
 abbrev pub IsLeast : Name → List Name → Type 0
 IsLeast m names = (list_any (same_name m) names ≡ true) × ((x : Name) → list_any (same_name x) names ≡ true → (x ≡ m) ⊎ (is_less m x ≡ true))
 
-pub any_front : (x : Name) (ns : List Name) → list_any (same_name x) (x ∷ ns) ≡ true
-any_front x ns = ap (λ b. b || list_any (same_name x) ns) ((name_decides x x).1 refl)
-
 any_more : (x n : Name) (ns : List Name) → list_any (same_name x) ns ≡ true → list_any (same_name x) (n ∷ ns) ≡ true
 any_more x n ns h =
     elim (cases_Bool (same_name x n)) [ inl t ↦ ap (λ b. b || list_any (same_name x) ns) t | inr t ↦ ap (λ b. b || list_any (same_name x) ns) t ∙ h ]
-
-pub any_cases : (x n : Name) (ns : List Name) → list_any (same_name x) (n ∷ ns) ≡ true → (x ≡ n) ⊎ (list_any (same_name x) ns ≡ true)
-any_cases x n ns h = elim (or_cases (same_name x n) (list_any (same_name x) ns) h) [ inl t ↦ inl ((name_decides x n).0 t) | inr t ↦ inr t ]
 
 no_least : (ns : List Name) → least ns ≡ None → ns ≡ []
 no_least [] h = refl
@@ -144,15 +120,6 @@ at_next tree dir last n h x =
     by_tests true false false f g = refl
 
 -- ---- the names that a listing has
-
-pub any-push : (x n : Name) (ns : List Name) → list_any (same_name x) (ns ++ n ∷ []) ≡ (same_name x n || list_any (same_name x) ns)
-any-push x n [] = refl
-any-push x n (m ∷ ns) = ap (λ b. same_name x m || b) (any-push x n ns) ∙ swap (same_name x m) (same_name x n) (list_any (same_name x) ns)
-  where
-    swap : (a b c : Bool) → (a || (b || c)) ≡ (b || (a || c))
-    swap true true c = refl
-    swap true false c = refl
-    swap false b c = refl
 
 pub up_to_given : (l : Listing) (tree : Tree) (o : Option Name) → next_name tree l.dir l.last ≡ o → l.ended ≡ false → HasUpTo l tree
     → HasUpTo (given l o) tree

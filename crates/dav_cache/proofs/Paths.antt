@@ -1,14 +1,14 @@
 -- Each path entry's key is the folding of its path, and what a caller got folds like what it asked. No premise is needed.
 use Rattle.std.proofs.Common.{◌≡◌, ℕ, zero, suc, ◌-◌, Bool, true, false, List, [], ◌∷◌, take, Some, refl, sym, ap, subst, ◌∙◌, inl, inr, slice_get}
 use Rattle.std.specs.Map.{lookup}
-use Rattle.dav_cache.specs.Trees.{Names, Tree, same_path, fold_path}
-use Rattle.dav_cache.specs.Entries.{PathEntry, Paths, without, is_old_path}
+use Rattle.dav_memory.specs.Trees.{Names, Tree, same_path, fold_path}
+use Rattle.dav_memory.specs.Entries.{PathEntry, Paths, without, is_old_path}
 use Rattle.dav_cache.specs.Core.{Event, State, Place, Turn, turn, step, run, start}
 use Rattle.dav_cache.specs.declared.place.Place.TheVariants.{Idle, Got}
 pub use Rattle.dav_cache.specs.Transparency.{AllFolded}
 use Rattle.dav_cache.specs.Transparency.{fits}
-use Rattle.dav_cache.proofs.Keys.{path_decides}
-use Rattle.dav_cache.proofs.Lists.{purged-take}
+use Rattle.dav_memory.proofs.Keys.{path_decides}
+use Rattle.dav_memory.proofs.Lists.{purged-take}
 use Rattle.dav_cache.proofs.Places.{get-replicate}
 use Rattle.dav_cache.proofs.Turns.{PathsTurn, paths_stay, path_rises, path_goes, path_comes, paths_age, Came, Turned, misplaced, turned, each_turn}
 

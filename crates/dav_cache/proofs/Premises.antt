@@ -4,14 +4,14 @@ use Rattle.std.specs.Prelude.{ℤ, pos}
 use Rattle.std.specs.Option.{option_map_or}
 use Rattle.dav_core.specs.declared.tree.Kind.TheVariants.{File, Dir}
 use Rattle.dav_core.specs.declared.tree.Row.{Row}
-use Rattle.dav_cache.specs.Trees.{Name, Names, FileTime, Tree, same_name, same_time, has_name, member_name, time_of}
+use Rattle.dav_memory.specs.Trees.{Name, Names, FileTime, Tree, same_name, same_time, has_name, member_name, time_of}
 use Rattle.dav_cache.specs.declared.event.Event.TheVariants.{Ask, Peek, Check, Conclude, Begin, Before, ListNext, After, Seal, Change}
 use Rattle.dav_cache.specs.declared.event.Told.TheVariants.{Absent}
 use Rattle.dav_cache.specs.Core.{Event, Moment, State, told, run, start, new_dots, settled}
 use Rattle.dav_cache.specs.Transparency.{IsFair, NoReturn, NeverBack, CanBeMet, LeavesDuring, IsListing, moment}
 use Rattle.std.proofs.lemmas.Bool.{cases_lt, true≢false, false≢true}
 use Rattle.dav_cache.proofs.Invariant.{time_is}
-use Rattle.dav_cache.proofs.Keys.{name_tells}
+use Rattle.dav_memory.proofs.Keys.{name_tells}
 
 pub no_return : (events : List Event) (s : State) → NeverBack events s → NoReturn events s
 no_return events s never c d t i j k ij jk kl all at_i at_k = elim (time_is (time_of (moment events s j).tree d) t) [

@@ -2,11 +2,11 @@
 use Rattle.std.proofs.Common.{◌≡◌, ℕ, Bool, zero, suc, true, false, ◌||◌, List, [], ◌∷◌, ◌++◌, Option, Some, None, if◌then◌else◌, replicate, ◌<◌, length, get_or, arith, slice_set, refl, sym, ap, subst, ◌∙◌, inl, inr}
 use Rattle.std.specs.List.{list_any, filter}
 use Rattle.std.proofs.lemmas.Bool.{cases_Bool, true≢false, and_parts, and_from, or_cases}
-use Rattle.dav_cache.specs.Trees.{Name, Tree, FileTime, same_name, is_after, is_less, is_dot, next_name, names_in}
-use Rattle.dav_cache.specs.Entries.{is_rising}
+use Rattle.dav_memory.specs.Trees.{Name, Tree, FileTime, same_name, is_after, is_less, is_dot, next_name, names_in}
+use Rattle.dav_memory.specs.Entries.{is_rising}
 use Rattle.dav_cache.specs.Core.{Place, Listing, Rises, AllRise, given, lists_next}
 use Rattle.dav_cache.specs.declared.place.Place.TheVariants.{Idle, Lists}
-use Rattle.dav_cache.proofs.Keys.{name_decides}
+use Rattle.dav_memory.proofs.Keys.{name_decides}
 use Rattle.dav_cache.proofs.Order.{less_itself, less_other, after_trans, least_is, any-push, any-filter}
 
 pub rise-at : (places : List Place) (c : ℕ) (place : Place) → c < length places → place ≡ get_or places c place → AllRise places → Rises place

@@ -1,6 +1,6 @@
 -- The invariant holds along every run under the premises.
 use Rattle.std.proofs.Common.{◌≡◌, ◌≢◌, ℕ, zero, suc, ◌<◌, ◌≤◌, List, [], ◌∷◌, ◌++◌, length, Some, refl, inl, inr, subst, arith, Contains}
-use Rattle.dav_cache.specs.Trees.{Names, FileTime, Tree, time_of}
+use Rattle.dav_memory.specs.Trees.{Names, FileTime, Tree, time_of}
 use Rattle.dav_cache.specs.Core.{Event, State, step, run, start}
 use Rattle.dav_cache.specs.declared.event.Event.TheVariants.{Change}
 use Rattle.dav_cache.specs.declared.place.Place.TheVariants.{Idle, Lists}

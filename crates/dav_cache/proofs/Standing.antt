@@ -3,15 +3,15 @@ use Rattle.std.proofs.Common.{◌≡◌, ℕ, ◌<◌, ◌≤◌, ◌^◌, ◌-�
 use Rattle.std.specs.List.{list_any}
 use Rattle.std.specs.Map.{lookup}
 use Rattle.std.proofs.lemmas.Bool.{lt-ltb}
-use Rattle.dav_cache.specs.Trees.{Name, Names, FileTime, Tree, same_name}
-use Rattle.dav_cache.specs.Entries.{DuEntry, Dots, Listed, AreCounted, without, purged, sealed, is_old_dot, dir_key, name_key, same_key, stands}
+use Rattle.dav_memory.specs.Trees.{Name, Names, FileTime, Tree, same_name}
+use Rattle.dav_memory.specs.Entries.{DuEntry, Dots, Listed, AreCounted, without, purged, sealed, is_old_dot, dir_key, name_key, same_key, stands}
 use Rattle.dav_cache.specs.Core.{Event, Moment, State, Turn, Listing, goes, new_dots, with_dots, seal, turn, step, run, start}
 use Rattle.dav_cache.specs.declared.event.Event.TheVariants.{Seal}
 use Rattle.dav_cache.specs.declared.place.Place.TheVariants.{Idle}
 use Rattle.dav_cache.specs.declared.event.Told.TheVariants.{Nothing}
 use Rattle.dav_cache.specs.Transparency.{ListedStand, fits}
-use Rattle.dav_cache.proofs.Keys.{path_tells}
-use Rattle.dav_cache.proofs.Lists.{purged-take}
+use Rattle.dav_memory.proofs.Keys.{path_tells}
+use Rattle.dav_memory.proofs.Lists.{purged-take}
 use Rattle.dav_cache.proofs.History.{run-append}
 use Rattle.dav_cache.proofs.Turns.{DotsTurn, dots_stay, dir_goes, dots_age, dir_comes, Turned, misplaced, turned, each_turn}
 use Rattle.dav_cache.proofs.Facts.{FactsOk, step_facts, run_facts, start_facts}

@@ -4,14 +4,14 @@ use Rattle.std.specs.Map.{lookup}
 use Rattle.std.specs.List.{list_any}
 use Rattle.std.proofs.lemmas.Bool.{false≢true}
 use Rattle.std.proofs.Math.Bool.{and-true}
-use Rattle.dav_cache.specs.Trees.{Name, Names, FileTime, Tree, same_name, has_name, time_of, next_name}
-use Rattle.dav_cache.specs.Entries.{DuEntry, Dots, Listed, is_old_dot, dir_key, same_key}
+use Rattle.dav_memory.specs.Trees.{Name, Names, FileTime, Tree, same_name, has_name, time_of, next_name}
+use Rattle.dav_memory.specs.Entries.{DuEntry, Dots, Listed, is_old_dot, dir_key, same_key}
 use Rattle.dav_cache.specs.Core.{Event, State, Place, Turn, Listing, settled, one_time, is_time, time_told, given, lists_next, turn, step}
 use Rattle.dav_cache.specs.declared.event.Event.TheVariants.{Before, ListNext, Change}
 use Rattle.dav_cache.specs.declared.place.Place.TheVariants.{Idle, Asked, Peeked, Passed, Failed, Begun, Lists, Ended, Finding, Got, Missed}
 use Rattle.dav_cache.specs.Transparency.{SoundAt, SameNames, fits}
-use Rattle.dav_cache.proofs.Keys.{is_time_at, path_cases}
-use Rattle.dav_cache.proofs.Lists.{purged-take, lookup-take}
+use Rattle.dav_memory.proofs.Keys.{is_time_at, path_cases}
+use Rattle.dav_memory.proofs.Lists.{purged-take, lookup-take}
 use Rattle.dav_cache.proofs.Dots.{AllBelow, Falling, below-lookup, below-take, below-without, falling-take, falling-without, sound-take, sound-dropped, kept-dropped, one-number, seals}
 use Rattle.dav_cache.proofs.Order.{HasUpTo, up_to_given, and_false}
 use Rattle.dav_cache.proofs.Invariant.{AreNamesOf, PlaceOk, Data, Inv, Keeps, Passing, holds_on, next}

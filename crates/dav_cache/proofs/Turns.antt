@@ -3,14 +3,14 @@ use Rattle.std.proofs.Common.{◌≡◌, ℕ, ◌+◌, ◌-◌, ◌^◌, ◌==�
 use Rattle.std.specs.Option.{option_map_or}
 use Rattle.std.specs.Map.{lookup}
 use Rattle.std.proofs.lemmas.Bool.{false≢true, ne_eqb, eq-eqb, cases_eq}
-use Rattle.dav_cache.specs.Trees.{Name, Names, FileTime, Tree, same_path, has_row, time_of, fold_path}
-use Rattle.dav_cache.specs.Entries.{Dots, DuEntry, PathEntry, Paths, dir_key, same_key, concludes, without, inserted, promoted, purged, sealed, is_old_path, is_old_dot}
+use Rattle.dav_memory.specs.Trees.{Name, Names, FileTime, Tree, same_path, has_row, time_of, fold_path}
+use Rattle.dav_memory.specs.Entries.{Dots, DuEntry, PathEntry, Paths, dir_key, same_key, concludes, without, inserted, promoted, purged, sealed, is_old_path, is_old_dot}
 use Rattle.dav_cache.specs.Core.{Event, Moment, State, Place, Told, Turn, Listing, goes, settled, is_time, time_told, ask, peeked, peek, check, conclude, drop_dir, begin, before, lists_next, list_next, after, new_dots, with_dots, seal, find, got, get, probe, drop, insert, purge, turn}
 use Rattle.dav_cache.specs.declared.event.Event.TheVariants.{Ask, Peek, Check, Conclude, DropDir, Begin, Before, ListNext, After, Seal, Find, Get, Probe, Drop, Insert, Purge, Change}
 use Rattle.dav_cache.specs.declared.place.Place.TheVariants.{Idle, Asked, Peeked, Passed, Failed, Begun, Lists, Ended, Finding, Got, Missed}
 use Rattle.dav_cache.specs.declared.event.Told.TheVariants.{Nothing, Absent, Path, Misplaced}
 use Rattle.dav_cache.specs.Transparency.{is_caller, is_misplaced, is_idle, is_asked, is_peeked, is_passed, is_failed, is_begun, lists_on, has_listed, is_ended, is_finding, is_got, is_missed, fits}
-use Rattle.dav_cache.proofs.Keys.{is_time_at}
+use Rattle.dav_memory.proofs.Keys.{is_time_at}
 use Rattle.dav_cache.proofs.Places.{get-set_own, get-set_other}
 
 -- ---- what becomes of the entries

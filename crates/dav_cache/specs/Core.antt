@@ -11,12 +11,12 @@ use Rattle.dav_cache.specs.declared.event.Told.TheVariants.{Nothing, Absent, Pat
 pub use Rattle.dav_cache.specs.declared.place.Listing.{Listing}
 pub use Rattle.dav_cache.specs.declared.place.Place.{Place}
 use Rattle.dav_cache.specs.declared.place.Place.TheVariants.{Idle, Asked, Peeked, Passed, Failed, Begun, Lists, Ended, Finding, Got, Missed}
-pub use Rattle.dav_cache.specs.declared.cache.PathEntry.{PathEntry}
-pub use Rattle.dav_cache.specs.declared.key.DuKey.{DuKey}
-pub use Rattle.dav_cache.specs.declared.key.DuEntry.{DuEntry}
-use Rattle.dav_cache.specs.Trees.{Name, Names, Tree, same_name, same_path, is_dot, is_after, fold_path, has_row, time_of, next_name}
-use Rattle.dav_cache.specs.Entries.{Paths, Dots, without, inserted, purged, promoted, is_old_path, is_old_dot, dir_key, same_key, concludes, sealed, is_rising}
-pub use Rattle.dav_cache.specs.Entries.{is_time}
+pub use Rattle.dav_memory.specs.declared.entry.PathEntry.{PathEntry}
+pub use Rattle.dav_memory.specs.declared.key.DuKey.{DuKey}
+pub use Rattle.dav_memory.specs.declared.key.DuEntry.{DuEntry}
+use Rattle.dav_memory.specs.Trees.{Name, Names, Tree, same_name, same_path, is_dot, is_after, fold_path, has_row, time_of, next_name}
+use Rattle.dav_memory.specs.Entries.{Paths, Dots, without, inserted, purged, promoted, is_old_path, is_old_dot, dir_key, same_key, concludes, sealed, is_rising}
+pub use Rattle.dav_memory.specs.Entries.{is_time, one_time}
 
 pub record State : Type 0 where
   pub tree : Tree
@@ -127,11 +127,6 @@ abbrev pub after : State → ℕ → Bool → Option Place → Turn
 after s c refused (Some (Lists l)) =
     if l.ended then goes s c (Ended l (time_told refused s.tree l.dir)) Nothing else (s, Misplaced)
 after s c refused _ = (s, Misplaced)
-
--- the time that was found before and after
-abbrev pub one_time : Option FileTime → Option FileTime → Option FileTime
-one_time None after = None
-one_time (Some time) after = if is_time time after then Some time else None
 
 -- the time that a listing may be sealed with
 unfoldable pub settled : Listing → Option FileTime → Option FileTime

@@ -8,11 +8,11 @@ use Rattle.dav_core.specs.declared.handle.DiskError.{DiskError}
 use Rattle.dav_core.specs.Disk.{DiskState}
 use Rattle.dav_core.specs.World.{World}
 use Rattle.dav_core.specs.Tree.{is_linked}
-use Rattle.dav_cache.specs.Trees.{Name, Names, FileTime, Tree, is_dot, is_after, same_name, same_path, fold_path, has_row, has_name, time_of}
-pub use Rattle.dav_cache.specs.Entries.{AllBelow, Falling, AllFolded}
-use Rattle.dav_cache.specs.Entries.{Dots, Paths, AreCounted, PathEntry, PathCache, DotCache, DuKey, DuEntry, dir_key, name_key, same_key, stands}
+use Rattle.dav_memory.specs.Trees.{Name, Names, FileTime, Tree, is_dot, is_after, same_name, same_path, fold_path, has_row, has_name, time_of}
+pub use Rattle.dav_memory.specs.Entries.{AllBelow, Falling, AllFolded}
+use Rattle.dav_memory.specs.Entries.{Dots, Paths, AreCounted, PathEntry, PathCache, DotCache, DuKey, DuEntry, dir_key, name_key, same_key, stands}
 use Rattle.dav_cache.specs.Core.{Event, State, Place, Told, Listing, settled, start, step, told, run}
-use Rattle.dav_cache.specs.Calls.{LooksBy, Seeing, Opening, Denies}
+use Rattle.dav_memory.specs.Calls.{LooksBy, Seeing, Opening, Denies}
 use Rattle.dav_cache.specs.declared.event.Event.TheVariants.{Ask, Peek, Check, Conclude, DropDir, Begin, Before, ListNext, After, Seal, Find, Get, Probe, Drop, Insert, Purge, Change}
 use Rattle.dav_cache.specs.declared.place.Place.TheVariants.{Idle, Asked, Peeked, Passed, Failed, Begun, Lists, Ended, Finding, Got, Missed}
 use Rattle.dav_cache.specs.declared.event.Told.TheVariants.{Nothing, Absent, Path, Misplaced}

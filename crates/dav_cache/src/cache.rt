@@ -2,10 +2,10 @@ ghost use Rattle.std.specs.Prelude.{◌≡◌, ◌↔◌, ◌<◌, ◌-◌, [], 
 ghost use Rattle.std.specs.Option.{option_map_or};
 ghost use Rattle.std.specs.Map.{lookup};
 ghost use Rattle.lru.specs.LruCache.{last_entry};
-ghost use Rattle.dav_cache.specs.Trees.{same_path, fold_path};
-ghost use Rattle.dav_cache.specs.Entries as entries;
-ghost use Rattle.dav_cache.specs.Entries.{PathEntry};
-ghost use Rattle.dav_cache.specs.Calls.{LacksMemory, Looks, LooksBy, Opening, found_by, is_starved as the_is_starved, probed};
+ghost use Rattle.dav_memory.specs.Trees.{same_path, fold_path};
+ghost use Rattle.dav_memory.specs.Entries as entries;
+ghost use Rattle.dav_memory.specs.Entries.{PathEntry};
+ghost use Rattle.dav_memory.specs.Calls.{LacksMemory, Looks, LooksBy, Opening, found_by, is_starved as the_is_starved, probed};
 
 use crate::valid::no_key_stands_twice;
 use crate::{FoldedPath, fold};
@@ -16,13 +16,6 @@ use std::alloc::Global;
 use std::marker::Model;
 use std::num::NonZeroUsize;
 
-/// An entry of the path cache: where a path was found, and when it was put, in whole seconds since 1970-01-01 UTC.
-#[derive(Drop)]
-pub struct PathEntry {
-    pub path: FsPath,
-    pub secs: u64,
-}
-
 /// Remembers for folded paths where they were found. A contract sees its entries, the most recently used first, and
 /// how many it may have.
 #[derive(Drop)]
@@ -31,7 +24,7 @@ pub struct Cache {
 }
 
 impl Model for Cache {
-    ghost use Rattle.dav_cache.specs.Entries.{PathCache, AllFolded};
+    ghost use Rattle.dav_memory.specs.Entries.{PathCache, AllFolded};
 
     ghost Value = { PathCache };
 

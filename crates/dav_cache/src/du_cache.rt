@@ -1,11 +1,11 @@
 ghost use Rattle.std.specs.Prelude.{◌≡◌, ◌↔◌, ◌<◌, ◌≤◌, ◌+◌, ◌-◌, ◌^◌, ◌&&◌, not, nat_lt, [], ◌++◌, length, take, Option, Some, None, option_map, true, false, IfOk, OnOk, OnErr, IsTrue};
 ghost use Rattle.std.specs.Option.{option_map_or, option_copied};
 ghost use Rattle.std.specs.List.{list_all};
-ghost use Rattle.dav_cache.specs.Trees.{is_after, is_dot as begins_with_dot};
+ghost use Rattle.dav_memory.specs.Trees.{is_after, is_dot as begins_with_dot};
 ghost use Rattle.std.specs.Map.{lookup};
 ghost use Rattle.lru.specs.LruCache.{lru_cache, last_entry, IsValid};
-ghost use Rattle.dav_cache.specs.Entries as dots;
-ghost use Rattle.dav_cache.specs.Calls as calls;
+ghost use Rattle.dav_memory.specs.Entries as dots;
+ghost use Rattle.dav_memory.specs.Calls as calls;
 
 use crate::key::{copy_name, dir_key, name_key};
 use crate::trees::is_dot;
@@ -18,17 +18,6 @@ use std::alloc::Global;
 use std::marker::Model;
 use std::num::NonZeroUsize;
 
-/// How a seal ended.
-#[derive(Clone, Copy, Debug, PartialEq, Eq)]
-pub enum Sealed {
-    /// The directory's entry stands, and so does each name that the cache has room for.
-    Done,
-    /// The greatest number was given before. Nothing was changed.
-    Last,
-    /// Memory was refused: the directory's entry is out, and the names put so far stand.
-    NoMemory,
-}
-
 /// Remembers which names that begin with `._` a directory had at a time. A contract sees its entries, the most
 /// recently used first, how many it may have, and the number of the next listing.
 #[derive(Drop)]
@@ -38,7 +27,7 @@ pub struct DuCache {
 }
 
 impl Model for DuCache {
-    ghost use Rattle.dav_cache.specs.Entries.{DotCache, AreCounted};
+    ghost use Rattle.dav_memory.specs.Entries.{DotCache, AreCounted};
 
     ghost Value = { DotCache };
 

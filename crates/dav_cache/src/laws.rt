@@ -1,7 +1,7 @@
 //! What holds of the caches over every list of events. Each law is the contract of a function that does nothing.
 
 ghost use Rattle.std.specs.Prelude.{◌≡◌, ℕ, List, All, IsUtf8};
-ghost use Rattle.dav_cache.specs.Trees.{Tree as rows, fold_name, fold_path};
+ghost use Rattle.dav_memory.specs.Trees.{Tree as rows, fold_name, fold_path};
 ghost use Rattle.dav_cache.specs.Core.{Event, State, start};
 ghost use Rattle.dav_cache.specs.Transparency.{AbsentOnlyWhereAbsent, PathOnlyWhereThere, EntriesAreSound, ListingsAreRight, FactsAreKept, PeeksAreHeld, ChecksAreHeld, ListedStand, NeverBack, NoReturn, CanBeMet, GetsAreEvents, OpensAreEvents, NegativesAreEvents, IsMisplacedExactly};
 

@@ -1,5 +1,5 @@
 ghost use Rattle.std.specs.Prelude.{◌≡◌, ◌<◌, [], IfOk};
-ghost use Rattle.dav_cache.specs.Memory.{memory_of};
+ghost use Rattle.dav_memory.specs.Memory.{memory_of};
 
 use crate::{Cache, DuCache, DuKey, Remember, Sealed};
 use dav_core::{Disk, FileTime, FsPath, Handle, Meta};
@@ -15,7 +15,7 @@ pub struct Owned {
 }
 
 impl Model for Owned {
-    ghost use Rattle.dav_cache.specs.Memory.{OwnedState};
+    ghost use Rattle.dav_memory.specs.Memory.{OwnedState};
 
     ghost Value = { OwnedState };
 

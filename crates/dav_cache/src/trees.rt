@@ -3,8 +3,8 @@
 ghost use Rattle.std.specs.Prelude.{◌≡◌, IfOk};
 ghost use Rattle.std.specs.Option.{option_copied};
 ghost use Rattle.dav_core.specs.Tree.{row_at as the_row_at};
-ghost use Rattle.dav_cache.specs.Trees as trees;
-ghost use Rattle.dav_cache.specs.Entries.{is_time as the_time};
+ghost use Rattle.dav_memory.specs.Trees as trees;
+ghost use Rattle.dav_memory.specs.Entries.{is_time as the_time};
 ghost use Rattle.dav_cache.specs.Core as core;
 
 use dav_core::{FileTime, FsPath, Kind, Row};
@@ -44,16 +44,6 @@ pub fn time_told(refused: bool, rows: &[Row], dir: &FsPath) -> Option<FileTime>
     ensures { result ≡ core.time_told refused rows.now dir.now }
 {
     if refused { None } else { time_of(rows, dir) }
-}
-
-/// Whether this is the time, where one is known.
-pub fn is_time(time: FileTime, found: Option<FileTime>) -> bool
-    ensures { result ≡ the_time time found }
-{
-    match found {
-        Some(other) => time == other,
-        None => false,
-    }
 }
 
 /// Whether the name begins with `._`.

@@ -3,7 +3,7 @@
 ghost use Rattle.std.specs.Prelude.{◌≡◌, ◌<◌, ◌+◌, ◌^◌, ℕ, None, true, OnOk, OnErr, IfOk, IfSome, length, option_map, replicate, slice_get, slice_set};
 ghost use Rattle.std.specs.Map.{lookup};
 ghost use Rattle.dav_cache.specs.Core as core;
-ghost use Rattle.dav_cache.specs.Entries.{is_rising};
+ghost use Rattle.dav_memory.specs.Entries.{is_rising};
 
 use crate::key::{copy_name, dir_key, name_key};
 use crate::trees::{has_row, is_dot, is_time, next_name, time_told};

@@ -1,4 +1,5 @@
--- When a component is, as far as a range of time asks (RFC 4791 section 9.9). Recurrence is not looked at.
+-- When a component is, as far as a range of time asks (a profile of RFC 4791 section
+-- 9.9). Recurrence is not looked at.
 use Rattle.std.specs.Prelude.{◌==◌, ◌&&◌, ℕ, Bool, true, not, List, [], ◌∷◌, codes, Option, None, Some, option_and_then, if◌then◌else◌, ℤ, pos, ◌+ℤ◌, int_lt, int_le}
 use Rattle.std.specs.Str.{bytes_eq}
 use Rattle.dav_calendar.specs.Moments.{duration, moment}

@@ -1,5 +1,5 @@
 //! Calendar texts (RFC 5545): their components, the moments and durations in them, and whether a component is at some
-//! time of a range (RFC 4791 section 9.9).
+//! time of a range (a profile of RFC 4791 section 9.9).
 #![tactic(auto)]
 
 mod component;

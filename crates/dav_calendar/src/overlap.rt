@@ -1,4 +1,4 @@
-//! When a component is (RFC 4791 section 9.9).
+//! When a component is (a profile of RFC 4791 section 9.9).
 ghost use Rattle.std.specs.Prelude.{◌≡◌, ◌≤◌, ◌^◌, ◌≤ℤ◌, IfSome, neg_ℤ, option_copied, pos};
 ghost use Rattle.dav_calendar.specs.TreeLists.{told_by};
 ghost use Rattle.dav_calendar.specs.Overlaps as form;
@@ -129,13 +129,17 @@ fn lasts_in(properties: &[Property]) -> Option<u64>
     }
 }
 
-/// Whether a component is at some time of a range of seconds since 1970-01-01 in UTC (RFC 4791 section 9.9). A missing
-/// start is before every moment, a missing end after every moment.
+/// Whether a component is at some time of a range of seconds since 1970-01-01 in UTC (a profile of RFC 4791 section 9.9).
+/// A missing start is before every moment, a missing end after every moment.
 ///
 /// The first property of each name counts, and one that can't be read counts as missing. A component that has a `DTEND`
 /// ends there; else it lasts as its `DURATION` says; else a day where its `DTSTART` is a day, and no time where it is a
 /// time of a day. What lasts no time is in a range from its start on. Without a `DTSTART` a `VEVENT` is at no time, and
-/// any other component at every time. Recurrence isn't looked at. Names are compared as they stand.
+/// any other component at every time. Names are compared as they stand.
+///
+/// What the section has beyond that isn't looked at: `DUE`, `COMPLETED` and `CREATED` of a `VTODO`, the periods of a
+/// `FREEBUSY`, triggers of alarms, time zones, recurrence, and that a `VJOURNAL` or `VFREEBUSY` without a `DTSTART` is at
+/// no time.
 pub fn overlaps(component: &Component, start: Option<i64>, end: Option<i64>) -> bool
     ensures { result ≡ form.overlaps (told_by component.now) start end }
 {

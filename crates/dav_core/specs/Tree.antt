@@ -53,7 +53,7 @@ is_apart (row ∷ rows) = is_free rows row && is_apart rows
 abbrev pub is_tree : List Row → Bool
 is_tree rows = has_dir rows [] && (list_all (is_placed rows) rows && is_apart rows)
 
--- A symbolic link stands on the way to a path, or at it. Nothing is said of such paths.
+-- A symbolic link stands on the way to a path, or at it. Of such a path calls say nothing but what a look at a link itself finds.
 abbrev pub is_linked : List Row → Names → Bool
 is_linked tree path = list_any (λ row. is_link row.kind && is_front row.path path) tree
 

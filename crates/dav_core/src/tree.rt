@@ -7,7 +7,8 @@ use dav_io::{NoMemory, Text};
 use std::alloc::Global;
 use std::marker::Model;
 
-/// What stands at a path. A symbolic link is handed on to the disk, and no claim speaks of it.
+/// What stands at a path. A symbolic link is handed on to the disk; a look at the link itself tells that it is one, and no
+/// claim speaks of where it leads.
 #[derive(Clone, Copy, Debug, PartialEq, Eq)]
 pub enum Kind {
     Dir,

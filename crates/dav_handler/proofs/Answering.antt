@@ -13,7 +13,7 @@ use Rattle.dav_core.specs.Disk.{DiskState, Live, TellsLive}
 use Rattle.dav_core.specs.Statuses.{closes, lacks_memory, status_of}
 use Rattle.dav_core.specs.Unchanged.{Keeps}
 use Rattle.dav_core.specs.World.{World}
-use Rattle.dav_cache.specs.Memory.{LearnsNothing, MemoryState}
+use Rattle.dav_memory.specs.Memory.{LearnsNothing, MemoryState}
 use Rattle.dav_model.specs.declared.outcome.Outcome.{Outcome}
 use Rattle.dav_model.specs.declared.settings.Settings.{Settings}
 use Rattle.dav_model.specs.declared.target.Target.TheVariants.{At, Refused}

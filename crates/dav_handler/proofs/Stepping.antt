@@ -5,7 +5,7 @@ use Rattle.dav_io.specs.Counts.{Rose}
 use Rattle.std.specs.Prelude.{true, is_some}
 use Rattle.dav_io.specs.Told.{Both}
 use Rattle.dav_io.proofs.ToldLemmas.{both_map}
-use Rattle.dav_cache.specs.Memory.{LearnsNothing, MemoryState}
+use Rattle.dav_memory.specs.Memory.{LearnsNothing, MemoryState}
 use Rattle.dav_io.specs.declared.clock.Moment.{Moment}
 use Rattle.dav_io.specs.declared.failure.NoMemory.{NoMemory}
 use Rattle.dav_core.specs.World.{World, put}

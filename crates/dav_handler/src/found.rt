@@ -15,7 +15,6 @@ ghost use Rattle.dav_handler.specs.By.{over_of};
 ghost use Rattle.dav_handler.specs.Found.{Finds, Gives, IsAlone, IsRefusedBy, OnlyWrites, said_in};
 
 use crate::gates::target;
-use dav_cache::Remember;
 use dav_config::{refused, refused_by};
 use dav_core::{DavError, DavMethod, DavMethodSet, DavPath, Disk};
 use dav_get::{GetBody, handle_get};
@@ -25,6 +24,7 @@ use dav_local_laws::{
     calls_teach_nothing, entries_have_the_moment, local_stores_ask_few, local_stores_follow_rules,
     local_stores_refuse_few, reads_are_right, reads_learn_what_stands,
 };
+use dav_memory::Remember;
 use dav_methods::{copy, delete, mkcalendar, mkcol, move_to, options, put_whole, writes_lead_on};
 use dav_model::{Outcome, Settings, Target};
 use dav_store::{DavFile, DavFileSystem};

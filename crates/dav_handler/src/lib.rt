@@ -8,9 +8,9 @@ mod player;
 mod playing;
 mod replies;
 
-pub use dav_cache::{Forget, Remember};
 pub use dav_config::{DavConfig, DavHandler};
 pub use dav_local::LocalFs;
+pub use dav_memory::{Forget, Remember};
 pub use dav_model::{Answer, Settings, Step};
 pub use player::Player;
 pub use playing::play;

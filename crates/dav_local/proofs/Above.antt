@@ -8,12 +8,12 @@ use Rattle.dav_core.specs.Disk.{DiskState}
 use Rattle.dav_core.specs.Path.{Names}
 use Rattle.dav_core.specs.Tree.{is_linked, look}
 use Rattle.dav_core.specs.declared.handle.DiskError.{DiskError}
-use Rattle.dav_cache.specs.declared.cache.PathEntry.{PathEntry}
-use Rattle.dav_cache.specs.Calls.{LooksBy}
-use Rattle.dav_cache.specs.Entries.{PathCache, Paths, inserted, without}
-use Rattle.dav_cache.specs.Memory.{MemoryState}
-use Rattle.dav_cache.specs.Trees.{same_path, fold_path as kept_path, fold_name as kept_name}
-use Rattle.dav_cache.proofs.Keys.{path_tells}
+use Rattle.dav_memory.specs.declared.entry.PathEntry.{PathEntry}
+use Rattle.dav_memory.specs.Calls.{LooksBy}
+use Rattle.dav_memory.specs.Entries.{PathCache, Paths, inserted, without}
+use Rattle.dav_memory.specs.Memory.{MemoryState}
+use Rattle.dav_memory.specs.Trees.{same_path, fold_path as kept_path, fold_name as kept_name}
+use Rattle.dav_memory.proofs.Keys.{path_tells}
 use Rattle.dav_model.specs.Folds.{Name, fold_name, fold_path}
 use Rattle.dav_local.specs.Places.{Place}
 use Rattle.dav_local.specs.Remembering.{HasFirst, HasNext, IsFirst, IsFoundIn, IsNext}

@@ -33,9 +33,9 @@ use Rattle.dav_store.specs.Shows.{LooksThere, OpensThere}
 use Rattle.dav_store.specs.Standing.{Seen}
 use Rattle.dav_store.specs.Void.{empty_info}
 use Rattle.dav_store.proofs.Reading.{rose_from}
-use Rattle.dav_cache.specs.Builder.{BuilderState}
-use Rattle.dav_cache.specs.Memory as cache
-use Rattle.dav_cache.specs.Memory.{Denied, LearnsNothing, MemoryState}
+use Rattle.dav_memory.specs.Builder.{BuilderState}
+use Rattle.dav_memory.specs.Memory as cache
+use Rattle.dav_memory.specs.Memory.{Denied, LearnsNothing, MemoryState}
 use Rattle.dav_model.specs.Finding.{Denies, EndsLoosely, has_slash, is_localized, is_named, is_virtual, listed_in, members_or}
 use Rattle.dav_model.specs.Folds.{Name, dir_time, dir_time_of, is_dot}
 use Rattle.dav_model.specs.Rules.{MayDeny, nothing_known}

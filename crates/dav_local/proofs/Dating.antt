@@ -7,15 +7,15 @@ use Rattle.dav_core.specs.declared.handle.DiskError.{DiskError}
 use Rattle.dav_core.specs.declared.time.FileTime.{FileTime}
 use Rattle.dav_core.specs.Disk.{DiskState}
 use Rattle.dav_core.specs.Path.{Names}
-use Rattle.dav_cache.specs.declared.cache.PathEntry.{PathEntry}
-use Rattle.dav_cache.specs.declared.du_cache.Sealed.{Sealed}
-use Rattle.dav_cache.specs.declared.du_cache.Sealed.TheVariants.{Done, Last, NoMemory as Starved}
-use Rattle.dav_cache.specs.declared.key.DuEntry.{DuEntry}
-use Rattle.dav_cache.specs.declared.key.DuKey.{DuKey}
-use Rattle.dav_cache.specs.Calls.{Denies, LooksBy, Seals, dropped, has_time}
-use Rattle.dav_cache.specs.Entries.{DotCache, Dots, Listed, PathCache, dir_key, inserted, is_old_dot, is_old_path, name_key, purged, put_dir, put_name, put_names, same_key, sealed, unless_old, without}
-use Rattle.dav_cache.specs.Memory.{GetsBy, Inserts, MemoryState, Negates, Purges, SealsIn}
-use Rattle.dav_cache.specs.Trees.{Name, same_path, fold_path as kept_path}
+use Rattle.dav_memory.specs.declared.entry.PathEntry.{PathEntry}
+use Rattle.dav_memory.specs.declared.sealed.Sealed.{Sealed}
+use Rattle.dav_memory.specs.declared.sealed.Sealed.TheVariants.{Done, Last, NoMemory as Starved}
+use Rattle.dav_memory.specs.declared.key.DuEntry.{DuEntry}
+use Rattle.dav_memory.specs.declared.key.DuKey.{DuKey}
+use Rattle.dav_memory.specs.Calls.{Denies, LooksBy, Seals, dropped, has_time}
+use Rattle.dav_memory.specs.Entries.{DotCache, Dots, Listed, PathCache, dir_key, inserted, is_old_dot, is_old_path, name_key, purged, put_dir, put_name, put_names, same_key, sealed, unless_old, without}
+use Rattle.dav_memory.specs.Memory.{GetsBy, Inserts, MemoryState, Negates, Purges, SealsIn}
+use Rattle.dav_memory.specs.Trees.{Name, same_path, fold_path as kept_path}
 use Rattle.dav_local.specs.Made.{AllOf, IsDotOf, IsPathOf, MadeAt, NewAre}
 
 -- ---- lists of entries

@@ -12,7 +12,7 @@ use Rattle.dav_core.specs.Tree.{is_linked, is_tree, look}
 use Rattle.dav_core.specs.Unchanged.{Keeps}
 use Rattle.dav_core.specs.World.{IsWorld, World}
 use Rattle.dav_core.proofs.Rows.{IsTree, tree_parts}
-use Rattle.dav_cache.specs.Entries.{PathCache}
+use Rattle.dav_memory.specs.Entries.{PathCache}
 use Rattle.dav_model.specs.Finding.{IsLoose, is_alike}
 use Rattle.dav_model.specs.Folds.{Name, fold_name, fold_path}
 use Rattle.dav_model.proofs.PlainWalks.{linked_below}

@@ -8,9 +8,9 @@ use Rattle.dav_core.specs.Disk.{DiskState}
 use Rattle.dav_core.specs.Unchanged.{Keeps}
 use Rattle.dav_core.proofs.UnchangedLemmas.{keeps_same}
 use Rattle.dav_store.specs.Members.{Answered}
-use Rattle.dav_cache.specs.Builder.{BuilderState, Finishes, Settles, Site, may_settle, time_found}
-use Rattle.dav_cache.specs.Core.{one_time}
-use Rattle.dav_cache.specs.Memory.{MemoryState}
+use Rattle.dav_memory.specs.Builder.{BuilderState, Finishes, Settles, Site, may_settle, time_found}
+use Rattle.dav_memory.specs.Entries.{one_time}
+use Rattle.dav_memory.specs.Memory.{MemoryState}
 use Rattle.dav_local.specs.declared.entry.LocalFsDirEntry.{LocalFsDirEntry}
 use Rattle.dav_local.specs.Gathering.{AfterNext, GivesNext, LocalFsReadDir, site_of}
 use Rattle.dav_local.specs.Listing.{ListingState, NextEntry}

@@ -7,7 +7,7 @@ use Rattle.dav_core.specs.Disk.{DiskState, Live, MetasBy}
 use Rattle.dav_core.specs.Path.{Names}
 use Rattle.dav_core.specs.Unchanged.{Keeps, SameBesidesOpens, SameListing, SameOpen}
 use Rattle.dav_core.proofs.UnchangedLemmas.{keeps_same, same_besides}
-use Rattle.dav_cache.specs.Memory.{AsksMeta}
+use Rattle.dav_memory.specs.Memory.{AsksMeta}
 
 pub metas_keep : (follows : Bool) (s : DiskState) (path : Names) (answer : Result Meta DiskError) (t : DiskState) → MetasBy follows s path answer t → Keeps s t
 metas_keep follows s path answer t metas = record {

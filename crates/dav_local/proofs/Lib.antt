@@ -31,3 +31,4 @@ pub mod EntriesTold
 pub mod Fronts
 pub mod Walked
 pub mod LocalView
+pub mod Grounds

@@ -3,7 +3,7 @@ use Rattle.std.specs.Prelude.{◌≡◌, true, false, Some, Option}
 use Rattle.std.specs.Borrow.{GName}
 use Rattle.dav_core.specs.Disk.{DiskState}
 use Rattle.dav_core.specs.Listing.{EndsListing}
-use Rattle.dav_cache.specs.Memory.{MemoryState}
+use Rattle.dav_memory.specs.Memory.{MemoryState}
 use Rattle.dav_store.specs.View.{Listings, View}
 use Rattle.dav_local.specs.declared.entry.LocalFsDirEntry.{LocalFsDirEntry}
 use Rattle.dav_local.specs.declared.file.LocalFsFile.{LocalFsFile}

@@ -13,8 +13,8 @@ use Rattle.dav_core.specs.World.{World}
 use Rattle.dav_core.proofs.UnchangedLemmas.{keeps_same, keeps_then}
 use Rattle.dav_store.specs.Files.{Spoiled}
 use Rattle.dav_store.proofs.Reading.{rose_from}
-use Rattle.dav_cache.specs.Entries.{PathCache, Paths}
-use Rattle.dav_cache.specs.Memory.{LearnsNothing, MayDeny, MemoryState}
+use Rattle.dav_memory.specs.Entries.{PathCache, Paths}
+use Rattle.dav_memory.specs.Memory.{LearnsNothing, MayDeny, MemoryState}
 use Rattle.dav_model.specs.Folds.{Name, fold_name, fold_path}
 use Rattle.dav_local.specs.Made.{MadeAt}
 use Rattle.dav_local.specs.Places.{Place}

@@ -10,8 +10,8 @@ use Rattle.dav_core.specs.Info.{Info}
 use Rattle.dav_core.specs.Path.{Names}
 use Rattle.dav_core.specs.Unchanged.{Keeps}
 use Rattle.dav_io.specs.declared.failure.NoMemory.{NoMemory}
-use Rattle.dav_cache.specs.Calls.{LacksMemory, Opening, Seeing}
-use Rattle.dav_cache.specs.Memory.{AsksOnceBy, GetsBy, MemoryState}
+use Rattle.dav_memory.specs.Calls.{LacksMemory, Opening, Seeing}
+use Rattle.dav_memory.specs.Memory.{AsksOnceBy, GetsBy, MemoryState}
 use Rattle.dav_local.specs.declared.file.LocalFsFile.{LocalFsFile}
 use Rattle.dav_local.specs.Calls.{AfterAbsent, LooksAt, TellsAbsent, asks_memory}
 use Rattle.dav_local.specs.Files.{filed}

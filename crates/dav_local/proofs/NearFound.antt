@@ -15,10 +15,10 @@ use Rattle.dav_core.specs.Path.{Names}
 use Rattle.dav_core.specs.Tree.{is_linked, look}
 use Rattle.dav_core.specs.World.{World}
 use Rattle.dav_store.specs.Files.{AsksOnce}
-use Rattle.dav_cache.specs.Calls.{LooksBy}
-use Rattle.dav_cache.specs.Entries.{PathCache}
-use Rattle.dav_cache.specs.Memory.{GetsBy, MemoryState}
-use Rattle.dav_cache.specs.Trees.{same_path, fold_path as kept_path}
+use Rattle.dav_memory.specs.Calls.{LooksBy}
+use Rattle.dav_memory.specs.Entries.{PathCache}
+use Rattle.dav_memory.specs.Memory.{GetsBy, MemoryState}
+use Rattle.dav_memory.specs.Trees.{same_path, fold_path as kept_path}
 use Rattle.dav_model.specs.Folds.{Name}
 use Rattle.dav_local.specs.Near.{CallsAtMost, FindsAtOnce, FindsDir, FindsDirHere, FindsHere, IsAtOnce, IsFoundAt, IsIn, IsUnkept, MissesUnasked, SearchesFew, SoughtIn, StandsClear, members_at}
 use Rattle.dav_local.specs.Places.{Place}

@@ -24,13 +24,13 @@ use Rattle.dav_store.specs.declared.entry.ReadDirMeta.{ReadDirMeta}
 use Rattle.dav_store.specs.Files.{AsksOnce}
 use Rattle.dav_store.specs.Frames.{OpensOne}
 use Rattle.dav_model.specs.Finding.{has_slash, is_virtual}
-use Rattle.dav_cache.specs.Calls.{Looks, Seeing}
-use Rattle.dav_cache.specs.declared.cache.PathEntry.{PathEntry}
-use Rattle.dav_cache.specs.Entries.{PathCache, Paths, without}
-use Rattle.dav_cache.specs.Memory.{Gets, MemoryState}
-use Rattle.dav_cache.specs.Trees.{same_path, fold_path as kept_path}
-use Rattle.dav_cache.proofs.Keys.{path_decides, path_tells}
-use Rattle.dav_cache.proofs.Lists.{lookup-without_other}
+use Rattle.dav_memory.specs.Calls.{Looks, Seeing}
+use Rattle.dav_memory.specs.declared.entry.PathEntry.{PathEntry}
+use Rattle.dav_memory.specs.Entries.{PathCache, Paths, without}
+use Rattle.dav_memory.specs.Memory.{Gets, MemoryState}
+use Rattle.dav_memory.specs.Trees.{same_path, fold_path as kept_path}
+use Rattle.dav_memory.proofs.Keys.{path_decides, path_tells}
+use Rattle.dav_memory.proofs.Lists.{lookup-without_other}
 use Rattle.dav_local.specs.declared.file.LocalFsFile.{LocalFsFile}
 use Rattle.dav_local.specs.declared.gathering.LocalFsReadDir.{LocalFsReadDir}
 use Rattle.dav_local.specs.Calls.{AfterFound, IsOpening, LooksAt, is_shut}

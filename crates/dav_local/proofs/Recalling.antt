@@ -21,11 +21,11 @@ use Rattle.dav_core.specs.World.{World}
 use Rattle.dav_core.specs.Writing.{reading}
 use Rattle.dav_core.proofs.UnchangedLemmas.{keeps_same}
 use Rattle.dav_store.specs.Files.{AsksOnce}
-use Rattle.dav_cache.specs.Calls.{Looks, LooksBy, Opening, Seeing, is_starved}
-use Rattle.dav_cache.specs.declared.cache.PathEntry.{PathEntry}
-use Rattle.dav_cache.specs.Entries.{PathCache, Paths, inserted, without}
-use Rattle.dav_cache.specs.Memory.{Gets, GetsBy, GetsOpen, Inserts, LearnsNothing, MemoryState}
-use Rattle.dav_cache.specs.Trees.{same_path, fold_path as kept_path}
+use Rattle.dav_memory.specs.Calls.{Looks, LooksBy, Opening, Seeing, is_starved}
+use Rattle.dav_memory.specs.declared.entry.PathEntry.{PathEntry}
+use Rattle.dav_memory.specs.Entries.{PathCache, Paths, inserted, without}
+use Rattle.dav_memory.specs.Memory.{Gets, GetsBy, GetsOpen, Inserts, LearnsNothing, MemoryState}
+use Rattle.dav_memory.specs.Trees.{same_path, fold_path as kept_path}
 use Rattle.dav_local.specs.Made.{MadeAt}
 use Rattle.dav_local.specs.Places.{Place}
 use Rattle.dav_local.specs.Remembering.{AllPaths, IsFirst, IsNewFirst, IsRemembered}

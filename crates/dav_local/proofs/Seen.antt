@@ -24,9 +24,9 @@ use Rattle.dav_core.proofs.Rows.{tree_parts}
 use Rattle.dav_store.specs.Files.{AsksOnce}
 use Rattle.dav_store.specs.Frames.{OpensOne}
 use Rattle.dav_store.proofs.Staying.{open_kept}
-use Rattle.dav_cache.specs.Calls.{LacksMemory, LooksBy, Opening, Seeing}
-use Rattle.dav_cache.specs.Memory.{Gets, GetsBy, GetsOpen}
-use Rattle.dav_cache.specs.Trees.{same_path, fold_path as kept_path}
+use Rattle.dav_memory.specs.Calls.{LacksMemory, LooksBy, Opening, Seeing}
+use Rattle.dav_memory.specs.Memory.{Gets, GetsBy, GetsOpen}
+use Rattle.dav_memory.specs.Trees.{same_path, fold_path as kept_path}
 use Rattle.dav_model.specs.Finding.{has_slash, is_localized, is_virtual}
 use Rattle.dav_model.specs.Folds.{fold_path, is_dot}
 use Rattle.dav_local.specs.Calls.{Finds, IsOpening, Looks, LooksAt, TellsAbsent, is_shut}

@@ -20,7 +20,7 @@ use Rattle.dav_core.specs.Tree.{is_dir}
 use Rattle.dav_core.specs.Writing.{Copies, CreatesDir, RemovesDir, RemovesFile, Renames}
 use Rattle.dav_store.specs.declared.entry.ReadDirMeta.{ReadDirMeta}
 use Rattle.dav_store.specs.Void.{empty_info}
-use Rattle.dav_cache.specs.Memory.{Negates}
+use Rattle.dav_memory.specs.Memory.{Negates}
 use Rattle.dav_model.specs.Finding.{has_slash, is_forbidden, is_localized, is_virtual}
 use Rattle.dav_model.specs.Folds.{Name, is_dot}
 use Rattle.dav_local.specs.declared.file.LocalFsFile.{LocalFsFile}

@@ -9,8 +9,8 @@ use Rattle.dav_core.specs.Disk.{DiskState}
 use Rattle.dav_core.specs.Path.{Names}
 use Rattle.dav_store.specs.declared.entry.ReadDirMeta.{ReadDirMeta}
 use Rattle.dav_store.specs.declared.entry.ReadDirMeta.TheVariants as wanted
-use Rattle.dav_cache.specs.Builder.{BuilderState, Finishes, Site, Starts, with_name}
-use Rattle.dav_cache.specs.Memory.{MemoryState}
+use Rattle.dav_memory.specs.Builder.{BuilderState, Finishes, Site, Starts, with_name}
+use Rattle.dav_memory.specs.Memory.{MemoryState}
 use Rattle.dav_local.specs.declared.entry.LocalFsDirEntry.{LocalFsDirEntry}
 use Rattle.dav_local.specs.Listing.{Begins, ListingState, NextEntry, stopped, to_come}
 use Rattle.dav_local.specs.Places.{Place}

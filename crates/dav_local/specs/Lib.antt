@@ -1,3 +1,4 @@
+pub mod Ground
 pub mod Standing
 pub mod Files
 pub mod Metadata

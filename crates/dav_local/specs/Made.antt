@@ -2,10 +2,10 @@
 use Rattle.std.specs.Prelude.{◌≡◌, Bool, true, List, [], ◌∷◌}
 use Rattle.dav_io.specs.Told.{Both}
 use Rattle.dav_io.specs.declared.clock.Moment.{Moment}
-use Rattle.dav_cache.specs.declared.cache.PathEntry.{PathEntry}
-use Rattle.dav_cache.specs.declared.key.DuEntry.{DuEntry}
-use Rattle.dav_cache.specs.Entries.{whole_seconds}
-use Rattle.dav_cache.specs.Memory.{MemoryState}
+use Rattle.dav_memory.specs.declared.entry.PathEntry.{PathEntry}
+use Rattle.dav_memory.specs.declared.key.DuEntry.{DuEntry}
+use Rattle.dav_memory.specs.Entries.{whole_seconds}
+use Rattle.dav_memory.specs.Memory.{MemoryState}
 
 -- The test holds of each entry, whatever its key is.
 abbrev pub AllOf : {K X : Type 0} → (X → Bool) → List (K × X) → Type 0

@@ -11,10 +11,10 @@ use Rattle.dav_core.specs.Path.{Names}
 use Rattle.dav_core.specs.Tree.{is_linked, look}
 use Rattle.dav_core.specs.World.{World}
 use Rattle.dav_store.specs.Files.{AsksOnce}
-use Rattle.dav_cache.specs.declared.cache.PathEntry.{PathEntry}
-use Rattle.dav_cache.specs.Entries.{PathCache, Paths, whole_seconds}
-use Rattle.dav_cache.specs.Memory.{MemoryState}
-use Rattle.dav_cache.specs.Trees.{same_path}
+use Rattle.dav_memory.specs.declared.entry.PathEntry.{PathEntry}
+use Rattle.dav_memory.specs.Entries.{PathCache, Paths, whole_seconds}
+use Rattle.dav_memory.specs.Memory.{MemoryState}
+use Rattle.dav_memory.specs.Trees.{same_path}
 use Rattle.dav_model.specs.Folds.{fold_path}
 use Rattle.dav_local.specs.Places.{Place}
 

@@ -11,7 +11,7 @@ use Rattle.dav_core.specs.World.{World}
 use Rattle.dav_store.specs.Files.{Spoiled}
 use Rattle.dav_model.specs.Finding.{EndsLoosely, or_walk}
 use Rattle.dav_model.specs.Folds.{fold_path}
-use Rattle.dav_cache.specs.Memory.{LearnsNothing}
+use Rattle.dav_memory.specs.Memory.{LearnsNothing}
 use Rattle.dav_local.specs.Made.{MadeAt}
 use Rattle.dav_local.specs.Places.{Place}
 use Rattle.dav_local.specs.Ways.{Ways, is_known}

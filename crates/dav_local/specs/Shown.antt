@@ -18,10 +18,10 @@ use Rattle.dav_store.specs.Members.{Answered, BeginsThere}
 use Rattle.dav_store.specs.Shows.{LooksThere, OpensThere}
 use Rattle.dav_store.specs.Standing.{Standing}
 use Rattle.dav_store.specs.Void.{empty_info}
-use Rattle.dav_cache.specs.declared.cache.PathEntry.{PathEntry}
-use Rattle.dav_cache.specs.Entries.{PathCache}
-use Rattle.dav_cache.specs.Memory.{MemoryState}
-use Rattle.dav_cache.specs.Trees.{same_path}
+use Rattle.dav_memory.specs.declared.entry.PathEntry.{PathEntry}
+use Rattle.dav_memory.specs.Entries.{PathCache}
+use Rattle.dav_memory.specs.Memory.{MemoryState}
+use Rattle.dav_memory.specs.Trees.{same_path}
 use Rattle.dav_model.specs.Finding.{Denies, EndsLoosely, Finding, has_slash, is_clear, is_localized, is_virtual, listed_in, looked_at, opened_at, resolved}
 use Rattle.dav_model.specs.Folds.{fold_path}
 use Rattle.dav_model.specs.Head.{Stood}

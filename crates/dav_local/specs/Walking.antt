@@ -16,9 +16,10 @@ use Rattle.dav_core.specs.Unchanged.{Keeps}
 use Rattle.dav_core.specs.World.{World, IsWorld}
 use Rattle.dav_store.specs.Files.{AsksOnce, Spoiled}
 use Rattle.dav_store.specs.Listings.{IsListed, KeepsButLister}
-use Rattle.dav_cache.specs.Memory.{LearnsNothing, MemoryState}
+use Rattle.dav_memory.specs.Memory.{LearnsNothing, MemoryState}
 use Rattle.dav_model.specs.Finding.{IsLoose, IsOf, is_alike}
 use Rattle.dav_model.specs.Folds.{Name, fold_name, fold_path}
+pub use Rattle.dav_local.specs.Ground.{IsClearAt, SoughtIn}
 use Rattle.dav_local.specs.Made.{MadeAt}
 use Rattle.dav_local.specs.Places.{Place}
 use Rattle.dav_local.specs.Remembering.{AllRemembered, HasFirst, HasNewFirst, HasNext, IsFoundIn, IsRemembered, IsUnheld, StandsElsewhere}
@@ -48,18 +49,6 @@ pub record Searches (s : DiskState) (l : ℕ) (folded : Name) (result : Result (
   pub alike : IfOk result (λ found. IfSome found (λ name. fold_name name ≡ folded))
   pub told : IfOk result (λ found. (w : World) (names : Names) → s.told ≡ Some w → w.listings l ≡ Some names
       → Sought names folded found)
-
--- A directory that stands there, with no link on the way or at it.
-pub record IsClearAt (tree : List Row) (at : Names) : Type 0 where
-  pub row : Row
-  pub stands : look tree at ≡ Ok row
-  pub clear : is_linked tree at ≡ false
-
--- Of the names in a directory one has this folding, or none has, also where it is no directory.
-abbrev pub SoughtIn : List Row → Names → Name → Option Name → Type 0
-SoughtIn tree at folded (Some name) = (row : Row) × IsOf row tree × (row.path ≡ at ++ name ∷ [])
-SoughtIn tree at folded None = (row : Row) (name : Name) → IsOf row tree → row.path ≡ at ++ name ∷ [] → fold_name name
-    ≡ folded → ⊥
 
 pub record SearchesIn (s : DiskState) (at : Names) (folded : Name) (result : Result (Option Name) FsError)
     (t : DiskState) : Type 0 where

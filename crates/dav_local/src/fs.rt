@@ -6,7 +6,7 @@ ghost use Rattle.dav_core.specs.Path.{is_plain, parent_of};
 ghost use Rattle.dav_core.specs.Tree.{is_linked};
 ghost use Rattle.dav_core.specs.Unchanged.{Keeps};
 ghost use Rattle.dav_core.specs.World.{World};
-ghost use Rattle.dav_cache.specs.Memory.{Negates};
+ghost use Rattle.dav_memory.specs.Memory.{Negates};
 ghost use Rattle.dav_model.specs.Finding as finding;
 ghost use Rattle.dav_model.specs.Folds.{is_dot};
 ghost use Rattle.dav_model.specs.Valid.{no_twins};
@@ -24,22 +24,23 @@ ghost use Rattle.dav_local.specs.Resolving.{Resolves};
 ghost use Rattle.dav_local.specs.Ways.{is_known as the_is_known, resolved_by, rules_of};
 
 use crate::acts::make_missing;
+use crate::ground::Ground;
 use crate::lists::look_by;
 use crate::meta::looked_as;
 use crate::walk::{at_or, copied, parent};
 use crate::ways::{is_dot_name, is_localized};
 use crate::{LocalFsMetaData, Ways};
-use dav_cache::Remember;
 use dav_core::{DavPath, Disk, FsError, FsPath};
 use dav_io::{Moment, NoMemory};
+use dav_memory::Remember;
 use std::alloc::Global;
 
 /// A disk from its root on, or one file of it, as a store. Names may be found that fold like those asked, the rules for
 /// clients of macOS may hold, and a memory is asked where paths were found, and whether a name that begins with `._` is
 /// absent.
 #[derive(Drop)]
-pub struct LocalFs<D, R> {
-    pub(crate) disk: D,
+pub struct LocalFs<D: Disk, R> {
+    pub(crate) disk: Ground<D>,
     pub(crate) memory: R,
     pub(crate) ways: Ways,
     // What is made is open to everybody.
@@ -48,7 +49,7 @@ pub struct LocalFs<D, R> {
     pub(crate) moment: Moment,
 }
 
-impl<D, R> LocalFs<D, R> {
+impl<D: Disk, R> LocalFs<D, R> {
     /// A store of the disk's root. What it makes is open to everybody where `public` is set.
     pub fn new(disk: D, memory: R, public: bool, case_insensitive: bool, macos: bool) -> Self
         ensures { result ≡ record {
@@ -60,7 +61,7 @@ impl<D, R> LocalFs<D, R> {
         } }
     {
         LocalFs {
-            disk,
+            disk: Ground::new(disk),
             memory,
             ways: Ways {
                 alone: None,
@@ -83,7 +84,7 @@ impl<D, R> LocalFs<D, R> {
         } }
     {
         LocalFs {
-            disk,
+            disk: Ground::new(disk),
             memory,
             ways: Ways {
                 alone: Some(file),
@@ -99,7 +100,7 @@ impl<D, R> LocalFs<D, R> {
     pub fn disk(&self) -> &D
         ensures { result.now ≡ self.now.disk }
     {
-        &self.disk
+        self.disk.disk()
     }
 
     /// Gives the disk and the memory back.
@@ -113,14 +114,14 @@ impl<D, R> LocalFs<D, R> {
             public: _,
             moment: _,
         } = self;
-        (disk, memory)
+        (disk.into_disk(), memory)
     }
 }
 
 impl<D: Disk, R: Remember> LocalFs<D, R> {
     /// Lends the memory.
     pub fn memory(&mut self) -> &mut R
-        ensures* writes_back { sem 𝓛 (Lends (the_row D.row R.row) R.row self.entry result
+        ensures* writes_back { sem 𝓛 (Lends (the_row D.row R.row D.Disk) R.row self.entry result
             (λ memory. record self.old { memory = memory })) }
         ensures value { result.now ≡ self.old.memory }
     {

@@ -2,16 +2,16 @@ ghost use Rattle.std.specs.Prelude.{◌≡◌, ◌<◌, ℕ, Option, Err, None, 
 ghost use Rattle.dav_io.specs.declared.clock.Moment.{Moment};
 ghost use Rattle.dav_core.specs.declared.error.FsError.{FsError};
 ghost use Rattle.dav_core.specs.Unchanged.{Keeps};
-ghost use Rattle.dav_cache.specs.Builder.{Starts};
+ghost use Rattle.dav_memory.specs.Builder.{Starts};
 ghost use Rattle.dav_store.specs.Listings.{GoesOn, HasLister, ListsOne, Nearer};
 ghost use Rattle.dav_local.specs.Gathering.{AfterNext, BeginsDir, GivesNext, dir_to_come, gathers as the_gathers};
 ghost use Rattle.dav_local.specs.Places.{Place, Stays, place_of};
 
 use crate::listing::{Reading, begin, next};
 use crate::{LocalFs, LocalFsDirEntry};
-use dav_cache::{DUCacheBuilder, Remember};
 use dav_core::{Disk, FsError, FsPath, Lister};
 use dav_io::NoMemory;
+use dav_memory::{DUCacheBuilder, Remember};
 use dav_store::ReadDirMeta;
 
 /// A listing of a local store. Names are read in batches of at most 256, with their metadata where it is asked for, and

@@ -27,8 +27,8 @@ ghost use Rattle.dav_local.specs.Standing.{HasNoLinks, seen_at};
 ghost use Rattle.dav_local.specs.Ways.{Ways, rules_with};
 
 use crate::{LocalFs, LocalFsFile};
-use dav_cache::Remember;
 use dav_core::{DavPath, Disk};
+use dav_memory::Remember;
 use dav_store::DavFileSystem;
 
 /// Over a told disk each look is answered by the rules for a place where a loose walk of the path ends, whatever the

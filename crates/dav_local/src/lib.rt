@@ -7,6 +7,7 @@ mod entry;
 mod file;
 mod fs;
 mod gathering;
+mod ground;
 pub mod laws;
 mod listing;
 mod lists;

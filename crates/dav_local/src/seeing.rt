@@ -3,7 +3,7 @@
 ghost use Rattle.std.specs.Prelude.{◌≡◌, true};
 ghost use Rattle.dav_core.specs.Writing.{reading};
 ghost use Rattle.dav_core.specs.Unchanged.{Keeps};
-ghost use Rattle.dav_cache.specs.Calls.{Opening, Seeing};
+ghost use Rattle.dav_memory.specs.Calls.{Opening, Seeing};
 ghost use Rattle.dav_store.specs.Frames.{OpensOne};
 ghost use Rattle.dav_store.specs.Standing.{info_in};
 ghost use Rattle.dav_local.specs.Calls.{LooksAt};
@@ -21,9 +21,9 @@ use crate::lists::look;
 use crate::meta::looked_as;
 use crate::walk::at_or;
 use crate::{LocalFs, LocalFsFile, LocalFsMetaData};
-use dav_cache::Remember;
 use dav_core::{Disk, DiskError, FsError, FsPath, Handle, Meta, OpenOptions};
 use dav_io::NoMemory;
+use dav_memory::Remember;
 
 impl<D: Disk, R: Remember> LocalFs<D, R> {
     // Looks at a path that is found by folding, with a link at its end followed.

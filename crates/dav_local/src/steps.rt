@@ -16,9 +16,9 @@ ghost use Rattle.dav_local.specs.Ways.{is_known as the_is_known};
 use crate::LocalFs;
 use crate::lists::look;
 use crate::walk::{alike, below, copied, step};
-use dav_cache::Remember;
 use dav_core::{Disk, DiskError, FsError, FsPath};
 use dav_io::{NoMemory, Text};
+use dav_memory::Remember;
 
 impl<D: Disk, R: Remember> LocalFs<D, R> {
     // Finds a path as the store finds it. None says that it is found as it is asked: then it isn't copied.

@@ -12,9 +12,9 @@ use crate::gathering::{begin_dir, next_in};
 use crate::lists::end_list;
 use crate::walk::at_or;
 use crate::{LocalFs, LocalFsDirEntry, LocalFsFile, LocalFsMetaData, LocalFsReadDir};
-use dav_cache::Remember;
 use dav_core::{DavPath, Disk, FsError, OpenOptions};
 use dav_io::Moment;
+use dav_memory::Remember;
 use dav_store::{DavFileSystem, ReadDirMeta};
 
 impl<D: Disk, R: Remember> DavFileSystem for LocalFs<D, R> {
@@ -81,10 +81,11 @@ impl<D: Disk, R: Remember> DavFileSystem for LocalFs<D, R> {
     } };
 
     fn disk(&mut self) -> &mut D {
-        &mut self.disk
+        self.disk.lend()
     }
 
     fn set_now(&mut self, now: Moment) {
+        self.disk.forget();
         self.moment = now;
     }
 

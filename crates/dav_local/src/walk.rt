@@ -8,14 +8,15 @@ ghost use Rattle.dav_local.specs.FromRoot.{StepsFew};
 ghost use Rattle.dav_local.specs.Near.{ReadsFew, SearchesFew};
 ghost use Rattle.dav_local.specs.Walking.{Searches, SearchesIn, Steps};
 
+use crate::ground::Ground;
 use crate::lists::{begin_list, end_list, look, next_name};
-use dav_cache::fold_text;
 use dav_core::{Disk, DiskError, FsError, FsPath, Lister};
 use dav_io::{NoMemory, Text};
+use dav_memory::fold_text;
 use std::alloc::Global;
 
 // The folding of a name.
-#[tactic(auto, unfolding(dav_cache::specs::Trees::fold_name))]
+#[tactic(auto, unfolding(dav_memory::specs::Trees::fold_name))]
 fn folded(alloc: Global, name: &Text) -> Result<Text, NoMemory>
     ensures { IfOk result (λ text. text ≡ folds.fold_name name.now) }
 {
@@ -49,8 +50,9 @@ fn search<D: Disk>(
     }
 }
 
-// The name with this folding in the directory at a path. None where it has none, and where no directory stands there.
-fn search_in<D: Disk>(disk: &mut D, at: &FsPath, folding: &Text) -> Result<Option<Text>, FsError>
+// The name with this folding in the directory at a path, which is listed. None where it has none, and where no
+// directory stands there.
+fn list_in<D: Disk>(disk: &mut D, at: &FsPath, folding: &Text) -> Result<Option<Text>, FsError>
     ensures done { SearchesIn (D.state disk.old) at.now folding.now result (D.state disk.new) }
     ensures few { SearchesFew (D.state disk.old) at.now (D.state disk.new) }
     ensures loan { D.loan disk.new ≡ D.loan disk.old }
@@ -66,8 +68,34 @@ fn search_in<D: Disk>(disk: &mut D, at: &FsPath, folding: &Text) -> Result<Optio
     found
 }
 
+// The same, which isn't listed where it is known that it has none.
+fn search_in<D: Disk>(
+    disk: &mut Ground<D>,
+    at: &FsPath,
+    folding: &Text,
+) -> Result<Option<Text>, FsError>
+    ensures done { SearchesIn (D.state disk.old) at.now folding.now result (D.state disk.new) }
+    ensures few { SearchesFew (D.state disk.old) at.now (D.state disk.new) }
+    ensures loan { D.loan disk.new ≡ D.loan disk.old }
+{
+    if disk.lacks(at, folding) {
+        return Ok(None);
+    }
+    match list_in(disk, at, folding) {
+        Ok(None) => {
+            disk.note(at, folding);
+            Ok(None)
+        }
+        found => found,
+    }
+}
+
 // The path of the name in a directory that folds like this one.
-pub fn alike<D: Disk>(disk: &mut D, at: &FsPath, name: &Text) -> Result<Option<FsPath>, FsError>
+pub fn alike<D: Disk>(
+    disk: &mut Ground<D>,
+    at: &FsPath,
+    name: &Text,
+) -> Result<Option<FsPath>, FsError>
     ensures done { Steps (D.state disk.old) at.now name.now result (D.state disk.new) }
     ensures few { SearchesFew (D.state disk.old) at.now (D.state disk.new) }
     ensures loan { D.loan disk.new ≡ D.loan disk.old }
@@ -86,7 +114,11 @@ pub fn alike<D: Disk>(disk: &mut D, at: &FsPath, name: &Text) -> Result<Option<F
 }
 
 // The path of a name in a directory: as it stands, or of the one that folds alike.
-pub fn step<D: Disk>(disk: &mut D, at: &FsPath, name: &Text) -> Result<Option<FsPath>, FsError>
+pub fn step<D: Disk>(
+    disk: &mut Ground<D>,
+    at: &FsPath,
+    name: &Text,
+) -> Result<Option<FsPath>, FsError>
     requires { is_plain name.now ≡ true }
     ensures done { Steps (D.state disk.old) at.now name.now result (D.state disk.new) }
     ensures few { StepsFew (D.state disk.old) at.now (D.state disk.new) }

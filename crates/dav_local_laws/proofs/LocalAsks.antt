@@ -23,10 +23,10 @@ use Rattle.dav_store.specs.View.{Listings, View}
 use Rattle.dav_walks.specs.Pouring.{Writes}
 use Rattle.dav_get.specs.Calls.{AsksAtMostFor, AsksFor, AsksToOpen}
 use Rattle.dav_get.proofs.Asking.{asked_once}
-use Rattle.dav_cache.specs.declared.cache.PathEntry.{PathEntry}
-use Rattle.dav_cache.specs.Entries.{PathCache}
-use Rattle.dav_cache.specs.Memory.{MemoryState}
-use Rattle.dav_cache.specs.Trees.{same_path}
+use Rattle.dav_memory.specs.declared.entry.PathEntry.{PathEntry}
+use Rattle.dav_memory.specs.Entries.{PathCache}
+use Rattle.dav_memory.specs.Memory.{MemoryState}
+use Rattle.dav_memory.specs.Trees.{same_path}
 use Rattle.dav_model.specs.Calls.{AreNear, IsNear, IsWalkedBy, calls_from_root, calls_to_open, calls_to_seek, is_link_on_way, is_on_way}
 use Rattle.dav_model.specs.Due.{OfItsPaths, Query}
 use Rattle.dav_model.specs.Finding.{has_slash, is_localized, is_virtual, or_walk}

@@ -22,7 +22,7 @@ use Rattle.dav_model.specs.Plans.{put_options}
 use Rattle.dav_model.specs.Rules.{Rules}
 use Rattle.dav_walks.specs.Follows.{Calls, IfBothFound, IfFound, OpensBy, Told, UnlessShut}
 use Rattle.dav_walks.specs.Pouring.{Writes}
-use Rattle.dav_cache.specs.Memory.{MemoryState}
+use Rattle.dav_memory.specs.Memory.{MemoryState}
 use Rattle.dav_local.specs.declared.entry.LocalFsDirEntry.{LocalFsDirEntry}
 use Rattle.dav_local.specs.declared.file.LocalFsFile.{LocalFsFile}
 use Rattle.dav_local.specs.declared.gathering.LocalFsReadDir.{LocalFsReadDir}

@@ -19,9 +19,9 @@ use Rattle.dav_walks.specs.Follows.{Reached}
 use Rattle.dav_walks.specs.Follows as on
 use Rattle.dav_walks.specs.Pouring.{Writes}
 use Rattle.dav_model.specs.Finding.{has_slash, is_forbidden, is_virtual}
-use Rattle.dav_cache.specs.Builder.{BuilderState, Finishes, Settles, may_settle, time_found}
-use Rattle.dav_cache.specs.Core.{one_time}
-use Rattle.dav_cache.specs.Memory.{MemoryState}
+use Rattle.dav_memory.specs.Builder.{BuilderState, Finishes, Settles, may_settle, time_found}
+use Rattle.dav_memory.specs.Entries.{one_time}
+use Rattle.dav_memory.specs.Memory.{MemoryState}
 use Rattle.dav_local.specs.declared.entry.LocalFsDirEntry.{LocalFsDirEntry}
 use Rattle.dav_local.specs.declared.file.LocalFsFile.{LocalFsFile}
 use Rattle.dav_local.specs.declared.gathering.LocalFsReadDir.{LocalFsReadDir}

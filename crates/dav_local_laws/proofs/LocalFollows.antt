@@ -40,7 +40,7 @@ use Rattle.dav_walks.specs.declared.child.Child.{Child}
 use Rattle.dav_walks.specs.Follows.{Calls, FailsToList, Follows, IfBothFound, IfFound, ListsBy, LooksBy, MovesBy, OpensBy, Reached, Told, UnlessShut, child_of, children_in}
 use Rattle.dav_walks.specs.Pouring.{Writes, WritesFile}
 use Rattle.dav_walks.specs.Reading.{AllSaid, HasMembers, HasNoMembers, MembersUnread, ReadRefused, child_named, child_said, children_said}
-use Rattle.dav_cache.specs.Memory.{LearnsNothing, MemoryState}
+use Rattle.dav_memory.specs.Memory.{LearnsNothing, MemoryState}
 use Rattle.dav_local.specs.declared.entry.LocalFsDirEntry.{LocalFsDirEntry}
 use Rattle.dav_local.specs.declared.file.LocalFsFile.{LocalFsFile}
 use Rattle.dav_local.specs.Calls.{BeginsAt, Finds, Place}

@@ -22,7 +22,7 @@ use Rattle.dav_walks.specs.Follows as on
 use Rattle.dav_walks.specs.Pouring.{Writes}
 use Rattle.dav_model.specs.Rules.{Learns}
 use Rattle.dav_model.specs.Finding.{has_slash, is_forbidden, is_virtual}
-use Rattle.dav_cache.specs.Memory.{LearnsNothing, MemoryState}
+use Rattle.dav_memory.specs.Memory.{LearnsNothing, MemoryState}
 use Rattle.dav_local.specs.declared.entry.LocalFsDirEntry.{LocalFsDirEntry}
 use Rattle.dav_local.specs.declared.file.LocalFsFile.{LocalFsFile}
 use Rattle.dav_local.specs.declared.ways.Ways.{Ways}

@@ -28,14 +28,14 @@ use Rattle.dav_walks.specs.Pouring.{Writes}
 use Rattle.dav_model.specs.Folds.{Name, dir_time, dir_time_of, has_name, is_dot}
 use Rattle.dav_model.specs.Rules.{Knowledge, Learns, SameDots, ShowsNames, WasKnown}
 use Rattle.dav_model.proofs.JoiningLemmas.{same_dots_then}
-use Rattle.dav_cache.specs.Builder.{BuilderState, Finishes, Settles, may_settle, time_found, with_name}
-use Rattle.dav_cache.specs.Core.{is_time, one_time}
-use Rattle.dav_cache.specs.declared.du_cache.Sealed.{Sealed}
-use Rattle.dav_cache.specs.Entries.{dir_key, kept}
-use Rattle.dav_cache.specs.Memory.{LearnsNothing, MemoryState, SealsIn}
-use Rattle.dav_cache.specs.Trees.{same_name}
-use Rattle.dav_cache.proofs.Keeping.{any-kept}
-use Rattle.dav_cache.proofs.Order.{any-push}
+use Rattle.dav_memory.specs.Builder.{BuilderState, Finishes, Settles, may_settle, time_found, with_name}
+use Rattle.dav_memory.specs.Entries.{is_time, one_time}
+use Rattle.dav_memory.specs.declared.sealed.Sealed.{Sealed}
+use Rattle.dav_memory.specs.Entries.{dir_key, kept}
+use Rattle.dav_memory.specs.Memory.{LearnsNothing, MemoryState, SealsIn}
+use Rattle.dav_memory.specs.Trees.{same_name}
+use Rattle.dav_memory.proofs.Keeping.{any-kept}
+use Rattle.dav_memory.proofs.Order.{any-push}
 use Rattle.dav_local.specs.declared.entry.LocalFsDirEntry.{LocalFsDirEntry}
 use Rattle.dav_local.specs.declared.file.LocalFsFile.{LocalFsFile}
 use Rattle.dav_local.specs.declared.ways.Ways.{Ways}

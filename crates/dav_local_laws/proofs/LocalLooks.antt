@@ -30,7 +30,7 @@ use Rattle.dav_model.proofs.LooseWalks.{found_exactly, names_refl}
 use Rattle.dav_walks.specs.Follows.{Finds as Found, LooksBy, Told}
 use Rattle.dav_walks.specs.Pouring.{Writes}
 use Rattle.dav_walks.proofs.trees.StandsAsBefore.{stands_same}
-use Rattle.dav_cache.specs.Memory.{LearnsNothing, MemoryState}
+use Rattle.dav_memory.specs.Memory.{LearnsNothing, MemoryState}
 use Rattle.dav_local.specs.declared.entry.LocalFsDirEntry.{LocalFsDirEntry}
 use Rattle.dav_local.specs.declared.file.LocalFsFile.{LocalFsFile}
 use Rattle.dav_local.specs.declared.gathering.LocalFsReadDir.{LocalFsReadDir}

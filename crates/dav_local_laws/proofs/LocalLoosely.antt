@@ -23,7 +23,7 @@ use Rattle.dav_model.specs.Rules.{Rules, nothing_known}
 use Rattle.dav_model.proofs.LooseWalks.{exactly_may}
 use Rattle.dav_walks.specs.Follows.{Calls, MovesBy, OpensBy, Reached, Told, UnlessShut}
 use Rattle.dav_walks.specs.Pouring.{Writes}
-use Rattle.dav_cache.specs.Memory.{MemoryState}
+use Rattle.dav_memory.specs.Memory.{MemoryState}
 use Rattle.dav_local.specs.declared.entry.LocalFsDirEntry.{LocalFsDirEntry}
 use Rattle.dav_local.specs.declared.file.LocalFsFile.{LocalFsFile}
 use Rattle.dav_local.specs.declared.gathering.LocalFsReadDir.{LocalFsReadDir}

@@ -31,7 +31,7 @@ use Rattle.dav_walks.specs.Follows.{Calls, IfBothFound, MeetsFile, MovesBy, Told
 use Rattle.dav_walks.specs.Pouring.{Writes}
 use Rattle.dav_walks.proofs.trees.OthersStay.{unlinked_from}
 use Rattle.dav_walks.proofs.removals.RemovalsAllowed.{back_taken}
-use Rattle.dav_cache.specs.Memory.{MemoryState}
+use Rattle.dav_memory.specs.Memory.{MemoryState}
 use Rattle.dav_local.specs.declared.entry.LocalFsDirEntry.{LocalFsDirEntry}
 use Rattle.dav_local.specs.declared.file.LocalFsFile.{LocalFsFile}
 use Rattle.dav_local.specs.declared.ways.Ways.{Ways}

@@ -15,7 +15,7 @@ use Rattle.dav_store.specs.Shows.{OpensThere}
 use Rattle.dav_store.specs.View.{Listings, View}
 use Rattle.dav_store.proofs.Reading.{reads_there, rose_on}
 use Rattle.dav_walks.specs.Pouring.{Writes}
-use Rattle.dav_cache.specs.Memory.{MemoryState}
+use Rattle.dav_memory.specs.Memory.{MemoryState}
 use Rattle.dav_core.specs.Writing.{reading}
 use Rattle.dav_local.specs.declared.entry.LocalFsDirEntry.{LocalFsDirEntry}
 use Rattle.dav_local.specs.declared.file.LocalFsFile.{LocalFsFile}

@@ -26,7 +26,7 @@ use Rattle.dav_store.proofs.Reading.{rose_from}
 use Rattle.dav_model.specs.Finding.{has_slash, is_virtual}
 use Rattle.dav_walks.specs.Pouring.{Writes}
 use Rattle.dav_get.specs.Heard.{RefusesFew}
-use Rattle.dav_cache.specs.Memory.{MemoryState}
+use Rattle.dav_memory.specs.Memory.{MemoryState}
 use Rattle.dav_local.specs.declared.entry.LocalFsDirEntry.{LocalFsDirEntry}
 use Rattle.dav_local.specs.declared.file.LocalFsFile.{LocalFsFile}
 use Rattle.dav_local.specs.declared.ways.Ways.{Ways}

@@ -29,15 +29,15 @@ use Rattle.dav_store.specs.View.{Listings, View}
 use Rattle.dav_walks.specs.Pouring.{Writes}
 use Rattle.dav_model.specs.Finding.{has_slash, is_virtual, or_walk}
 use Rattle.dav_model.specs.Folds.{Name, dir_time, dir_time_of, is_dot}
-use Rattle.dav_cache.specs.declared.du_cache.Sealed.{Sealed}
-use Rattle.dav_cache.specs.declared.du_cache.Sealed.TheVariants.{Done, Last, NoMemory}
-use Rattle.dav_cache.specs.Builder.{BuilderState, Finishes, Settles, TellsSealed, may_settle, time_found, with_name}
-use Rattle.dav_cache.specs.Calls.{Denies, has_time}
-use Rattle.dav_cache.specs.Core.{is_time, one_time}
-use Rattle.dav_cache.specs.declared.key.DuEntry.{DuEntry}
-use Rattle.dav_cache.specs.Entries.{DotCache, concludes, dir_key, same_key, stands}
-use Rattle.dav_cache.specs.Memory.{MemoryState, Negates}
-use Rattle.dav_cache.proofs.Keys.{time_decides}
+use Rattle.dav_memory.specs.declared.sealed.Sealed.{Sealed}
+use Rattle.dav_memory.specs.declared.sealed.Sealed.TheVariants.{Done, Last, NoMemory}
+use Rattle.dav_memory.specs.Builder.{BuilderState, Finishes, Settles, TellsSealed, may_settle, time_found, with_name}
+use Rattle.dav_memory.specs.Calls.{Denies, has_time}
+use Rattle.dav_memory.specs.Entries.{is_time, one_time}
+use Rattle.dav_memory.specs.declared.key.DuEntry.{DuEntry}
+use Rattle.dav_memory.specs.Entries.{DotCache, concludes, dir_key, same_key, stands}
+use Rattle.dav_memory.specs.Memory.{MemoryState, Negates}
+use Rattle.dav_memory.proofs.Keys.{time_decides}
 use Rattle.dav_local.specs.declared.entry.LocalFsDirEntry.{LocalFsDirEntry}
 use Rattle.dav_local.specs.declared.file.LocalFsFile.{LocalFsFile}
 use Rattle.dav_local.specs.declared.gathering.LocalFsReadDir.{LocalFsReadDir}

@@ -28,7 +28,7 @@ use Rattle.dav_walks.specs.Pouring.{Writes}
 use Rattle.dav_model.specs.Finding.{EndsLoosely, listed_in, members_or}
 use Rattle.dav_model.specs.Unset.{nothing_set}
 use Rattle.dav_model.proofs.LooseWalks.{found_exactly}
-use Rattle.dav_cache.specs.Memory.{MemoryState}
+use Rattle.dav_memory.specs.Memory.{MemoryState}
 use Rattle.dav_local.specs.declared.entry.LocalFsDirEntry.{LocalFsDirEntry}
 use Rattle.dav_local.specs.declared.file.LocalFsFile.{LocalFsFile}
 use Rattle.dav_local.specs.declared.ways.Ways.{Ways}

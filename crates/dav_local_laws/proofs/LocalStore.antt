@@ -4,7 +4,7 @@ use Rattle.std.specs.Borrow.{GName}
 use Rattle.std.proofs.Common.{ap}
 use Rattle.dav_core.specs.Disk.{DiskState}
 use Rattle.dav_core.specs.World.{IsWorld, World}
-use Rattle.dav_cache.specs.Memory.{MemoryState}
+use Rattle.dav_memory.specs.Memory.{MemoryState}
 use Rattle.dav_local.specs.Places.{place_of}
 use Rattle.dav_local.specs.Writing.{WritesAll}
 use Rattle.dav_local.proofs.LocalView.{local_lists, local_view}

@@ -28,7 +28,7 @@ use Rattle.dav_store.specs.View.{Listings, View}
 use Rattle.dav_store.proofs.Reading.{rose_from, rose_on}
 use Rattle.dav_methods.specs.Answers.{RefusedUsually, RefusesUsually, Usual, is_usual}
 use Rattle.dav_walks.specs.Pouring.{Writes}
-use Rattle.dav_cache.specs.Memory.{MemoryState}
+use Rattle.dav_memory.specs.Memory.{MemoryState}
 use Rattle.dav_model.specs.Finding.{has_slash, is_forbidden, is_virtual}
 use Rattle.dav_local.specs.declared.entry.EntryMeta.{EntryMeta}
 use Rattle.dav_local.specs.declared.entry.EntryMeta.TheVariants.{At, Read}
@@ -51,7 +51,7 @@ use Rattle.dav_local.proofs.Fronts.{refills_counts, same_entry}
 use Rattle.dav_local_laws.specs.LocalStore.{IsLocalStore, place}
 use Rattle.dav_io.specs.declared.clock.Moment.{Moment}
 use Rattle.dav_io.specs.declared.failure.NoMemory.{NoMemory as Starved}
-use Rattle.dav_cache.specs.Builder.{BuilderState}
+use Rattle.dav_memory.specs.Builder.{BuilderState}
 use Rattle.dav_local.specs.declared.gathering.LocalFsReadDir.{LocalFsReadDir}
 use Rattle.dav_local.specs.Gathering.{AfterNext, BeginsDir, at_end, dir_with, gathers}
 use Rattle.dav_local.proofs.Gathered.{Next, after_keeps}

@@ -45,7 +45,7 @@ use Rattle.dav_get.specs.Table.{Given, IsListing, ReadsMembers, asked_at}
 use Rattle.dav_get.specs.Told.{found_as}
 use Rattle.dav_get.proofs.HeardCouldStand.{heard_could, looked_could}
 use Rattle.dav_get.proofs.HeardEach.{CouldList, Fits, bare_fits, failed_fits, heard_fits, known_fits, listed_could, look_fits, opened_could, opened_fits, page_fits, refused_fits, unlisted_fits}
-use Rattle.dav_cache.specs.Memory.{MemoryState}
+use Rattle.dav_memory.specs.Memory.{MemoryState}
 use Rattle.dav_local.specs.declared.entry.LocalFsDirEntry.{LocalFsDirEntry}
 use Rattle.dav_local.specs.declared.ways.Ways.{Ways}
 use Rattle.dav_local.specs.Calls.{is_shut}

@@ -18,7 +18,7 @@ use Rattle.dav_store.specs.Shows.{OpensThere}
 use Rattle.dav_store.specs.Standing.{Seen, Standing}
 use Rattle.dav_store.specs.View.{Listings, View}
 use Rattle.dav_model.specs.Finding.{EndsLoosely}
-use Rattle.dav_cache.specs.Memory.{MemoryState}
+use Rattle.dav_memory.specs.Memory.{MemoryState}
 use Rattle.dav_get.specs.Heard.{RefusesFew}
 use Rattle.dav_get.specs.Told.{found_as}
 use Rattle.dav_local.specs.declared.entry.LocalFsDirEntry.{LocalFsDirEntry}

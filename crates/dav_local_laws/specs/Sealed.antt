@@ -11,13 +11,13 @@ use Rattle.dav_core.specs.World.{World}
 use Rattle.dav_store.specs.Files.{AsksOnce}
 use Rattle.dav_store.specs.Members.{Answered}
 use Rattle.dav_model.specs.Folds.{dir_time}
-use Rattle.dav_cache.specs.declared.du_cache.Sealed.{Sealed}
-use Rattle.dav_cache.specs.declared.du_cache.Sealed.TheVariants.{Done, Last, NoMemory as Starved}
-use Rattle.dav_cache.specs.Builder.{BuilderState, with_name}
-use Rattle.dav_cache.specs.declared.key.DuEntry.{DuEntry}
-use Rattle.dav_cache.specs.Entries.{DotCache, dir_key, name_key, same_key, stands}
+use Rattle.dav_memory.specs.declared.sealed.Sealed.{Sealed}
+use Rattle.dav_memory.specs.declared.sealed.Sealed.TheVariants.{Done, Last, NoMemory as Starved}
+use Rattle.dav_memory.specs.Builder.{BuilderState, with_name}
+use Rattle.dav_memory.specs.declared.key.DuEntry.{DuEntry}
+use Rattle.dav_memory.specs.Entries.{DotCache, dir_key, name_key, same_key, stands}
 use Rattle.std.specs.Map.{lookup}
-use Rattle.dav_cache.specs.Memory.{MemoryState, SealsIn}
+use Rattle.dav_memory.specs.Memory.{MemoryState, SealsIn}
 use Rattle.dav_core.specs.declared.time.FileTime.{FileTime}
 use Rattle.dav_io.specs.declared.clock.Moment.{Moment}
 use Rattle.dav_local.specs.Places.{Place}

@@ -9,13 +9,13 @@ ghost use Rattle.dav_core.specs.declared.time.FileTime.{FileTime as Time};
 ghost use Rattle.dav_core.specs.DavPath.{last_name};
 ghost use Rattle.dav_core.specs.Info.{Info};
 ghost use Rattle.dav_core.specs.Listing.{or_empty};
-ghost use Rattle.dav_cache.specs.Builder.{BuilderState, may_settle};
+ghost use Rattle.dav_memory.specs.Builder.{BuilderState, may_settle};
 ghost use Rattle.dav_local.specs.Calls.{LooksAt, is_shut, place_of};
 ghost use Rattle.dav_local.specs.declared.gathering.LocalFsReadDir.{LocalFsReadDir};
 ghost use Rattle.dav_model.specs.Folds.{dir_time, is_dot};
 ghost use Rattle.dav_store.specs.Members.{Answered, Walked};
 ghost use Rattle.dav_local_laws.specs.Sealed.{DeniedAtOnce, IsKnownAbsent, SealedWith, gathered};
-ghost use Rattle.dav_cache.specs.Memory.{LearnsNothing};
+ghost use Rattle.dav_memory.specs.Memory.{LearnsNothing};
 ghost use Rattle.dav_core.specs.DavPath.{WebPath};
 ghost use Rattle.dav_core.specs.Path.{Names};
 ghost use Rattle.dav_core.specs.Tree.{is_linked};
@@ -52,9 +52,9 @@ ghost use Rattle.dav_local_laws.specs.LocalStore.{IsLocalStore};
 ghost use Rattle.dav_local_laws.specs.Loosely.{FollowsLoosely};
 ghost use Rattle.dav_local_laws.specs.Ruled.{FindsOnce, HasFreeMembers, IsFree, IsOfRules, members_in, opened_in};
 
-use dav_cache::Remember;
 use dav_core::{DavPath, Disk};
 use dav_local::{LocalFs, LocalFsFile};
+use dav_memory::Remember;
 use dav_model::Settings;
 use dav_store::{DavFile, DavFileSystem};
 

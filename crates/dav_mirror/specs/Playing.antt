@@ -1,6 +1,6 @@
 -- A player as a peer.
 use Rattle.std.specs.Prelude.{drop}
-use Rattle.dav_cache.specs.declared.remember.Remember.{Ghosts as MemoryGhosts}
+use Rattle.dav_memory.specs.declared.remember.Remember.{Ghosts as MemoryGhosts}
 use Rattle.dav_core.specs.declared.disk.Disk.{Ghosts as DiskGhosts}
 use Rattle.dav_fetch.specs.Peer.{Calls, PeerState}
 use Rattle.dav_handler.specs.Player.{playing_of, stage_of}

@@ -6,11 +6,11 @@ ghost use Rattle.dav_mirror.specs.Playing.{calls_of, peer_of};
 
 use crate::lines::text_of;
 use crate::play_peer::PlayPeer;
-use dav_cache::Forget;
 use dav_core::Disk;
 use dav_fetch::{Copied, Kept, MirrorError, fetch};
 use dav_handler::{LocalFs, Player, Settings};
 use dav_io::{NoMemory, Sink, put_all};
+use dav_memory::Forget;
 use std::alloc::Global;
 
 // How many requests may be made.

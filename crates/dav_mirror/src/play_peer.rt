@@ -4,11 +4,11 @@ ghost use Rattle.dav_handler.specs.Player.{playing_of, stage_of};
 ghost use Rattle.dav_model.specs.Still.{StandsAs};
 
 use crate::asking::{Asking, request_for};
-use dav_cache::Remember;
 use dav_core::{DavPath, Disk};
 use dav_fetch::{Got, Peer, PeerFault, give_from};
 use dav_handler::{Answer, Player, Reply, Step};
 use dav_io::{Fields, Moment, NoMemory, Octets};
+use dav_memory::Remember;
 use http::Request;
 use std::alloc::Global;
 use std::mem;

@@ -1,11 +1,12 @@
 -- The fields of each reply stand in order, and each is a field.
-use Rattle.std.proofs.Common.{◌≡◌, ◌&&◌, ◌⊎◌, inl, inr, ◌++◌, ℕ, List, [], ◌∷◌, map, Bool, true, false, cond, All, Contains, codes, bytes_eq, decimal, option_map, Option, None, Some, refl, sym, ap, subst, ◌∙◌, arith, true≢false}
+use Rattle.std.proofs.Common.{◌≡◌, ◌&&◌, ◌⊎◌, inl, inr, ◌++◌, ℕ, List, [], ◌∷◌, map, Bool, true, false, cond, All, Contains, codes, bytes_eq, not, decimal, option_map, Option, None, Some, refl, sym, ap, subst, ◌∙◌, arith, true≢false}
 use Rattle.std.specs.Ordering.{nat_cmp, is_lt}
 use Rattle.std.specs.declared.cmp.Ordering.TheVariants.{Less}
 use Rattle.std.specs.Cmp.Lexicographic.{slice_cmp}
 use Rattle.std.specs.List.{list_all, AllByRecursion, filter, flat_map, join_by}
 use Rattle.std.specs.List.Sorted.{IsStrictlySortedBy}
-use Rattle.std.proofs.lemmas.Bool.{and_parts}
+use Rattle.std.proofs.lemmas.Bool.{and_parts, not-true}
+use Rattle.std.proofs.lemmas.Slice.Eq.{bytes_eq-Decides}
 use Rattle.std.proofs.lemmas.List.Elements.{All-cons, All-nil}
 use Rattle.std.proofs.lemmas.List.Sums.{AllPass-from_list_all}
 use Rattle.http_header.specs.Token.{IsToken, is_token_byte, is_value_byte}
@@ -98,7 +99,7 @@ known_names = (
                             known (codes "pragma") (omega arith, AllPass-from_list_all is_token_byte (codes "pragma") refl) (13, omega arith, refl),
                             (
                               known (codes "vary") (omega arith, AllPass-from_list_all is_token_byte (codes "vary") refl) (14, omega arith, refl),
-                              tt,
+                              (known (codes "x-content-type-options") (omega arith, AllPass-from_list_all is_token_byte (codes "x-content-type-options") refl) (15, omega arith, refl), tt),
                             ),
                           ),
                         ),
@@ -136,8 +137,6 @@ ascend_some fields has = sorted reply_names fields refl has
 pub each_some : (fields : List Field) → HasSome reply_names fields → All IsReplyField fields
 each_some fields has = each reply_names fields known_names has
 
--- ---- the fields of each reply
-
 skip : (name : List ℕ) (names : List (List ℕ)) (fields : List Field) → HasSome names fields → HasSome (name ∷ names) fields
 skip name names [] has = tt
 skip name names (f ∷ fields) has = inr has
@@ -145,152 +144,111 @@ skip name names (f ∷ fields) has = inr has
 value_of_other : (name value : List ℕ) → bytes_eq name (codes "connection") ≡ false → Fits value → IsValue name value
 value_of_other name value other fits = (fits, λ e. absurd (true≢false (sym e ∙ other)))
 
-next : (name value : List ℕ) (names : List (List ℕ)) (fields : List Field) → bytes_eq name (codes "connection") ≡ false → Fits value → HasSome names fields
-    → HasSome (name ∷ names) (field name value ∷ fields)
-next name value names fields other fits has = inl (refl, value_of_other name value other fits, has)
+-- ---- replies as templates: fields in the order of their names, some of which may be absent
 
-perhaps : (name : List ℕ) (value : Option (List ℕ)) (names : List (List ℕ)) (fields : List Field) → bytes_eq name (codes "connection") ≡ false → FitsWhere value → HasSome names fields
-    → HasSome (name ∷ names) (field_where name value ++ fields)
-perhaps name None names fields other fits has = skip name names fields has
-perhaps name (Some value) names fields other fits has = next name value names fields other fits has
+data Entry : Type 0 where
+  must : List ℕ → List ℕ → Entry
+  may : List ℕ → Option (List ℕ) → Entry
+  -- the connection closes
+  closes : Entry
 
-perhaps_last : (name : List ℕ) (value : Option (List ℕ)) (names : List (List ℕ)) → bytes_eq name (codes "connection") ≡ false → FitsWhere value → HasSome (name ∷ names) (field_where name value)
-perhaps_last name None names other fits = tt
-perhaps_last name (Some value) names other fits = next name value names [] other fits tt
+abbrev entry_name : Entry → List ℕ
+entry_name (must name value) = name
+entry_name (may name value) = name
+entry_name closes = codes "connection"
 
--- the names from each on
-abbrev from_vary : List (List ℕ)
-from_vary = codes "vary" ∷ []
+abbrev fields_in : List Entry → List Field
+fields_in [] = []
+fields_in (must name value ∷ entries) = field name value ∷ fields_in entries
+fields_in (may name value ∷ entries) = field_where name value ++ fields_in entries
+fields_in (closes ∷ entries) = field (codes "connection") (codes "close") ∷ fields_in entries
 
-abbrev from_pragma : List (List ℕ)
-from_pragma = codes "pragma" ∷ from_vary
+abbrev EntryFits : Entry → Type 0
+EntryFits (must name value) = Fits value
+EntryFits (may name value) = FitsWhere value
+EntryFits closes = Unit {0}
 
-abbrev from_author : List (List ℕ)
-from_author = codes "ms-author-via" ∷ from_pragma
+abbrev is_other : Entry → Bool
+is_other (must name value) = not (bytes_eq name (codes "connection"))
+is_other (may name value) = not (bytes_eq name (codes "connection"))
+is_other closes = true
 
-abbrev from_location : List (List ℕ)
-from_location = codes "location" ∷ from_author
+abbrev are_among : List Entry → List (List ℕ) → Bool
+are_among [] names = true
+are_among (entry ∷ entries) [] = false
+are_among (entry ∷ entries) (name ∷ names) =
+    cond (bytes_eq (entry_name entry) name) (is_other entry && are_among entries names) (are_among (entry ∷ entries) names)
 
-abbrev from_modified : List (List ℕ)
-from_modified = codes "last-modified" ∷ from_location
+valued : (n name value : List ℕ) → n ≡ name → not (bytes_eq n (codes "connection")) ≡ true → Fits value → IsValue name value
+valued n name value same other fit = subst (λ m. IsValue m value) same (value_of_other n value (not-true _ other) fit)
 
-abbrev from_expires : List (List ℕ)
-from_expires = codes "expires" ∷ from_modified
+front : (name : List ℕ) (names : List (List ℕ)) (entry : Entry) (entries : List Entry) → entry_name entry ≡ name → is_other entry ≡ true
+    → EntryFits entry → HasSome names (fields_in entries) → HasSome (name ∷ names) (fields_in (entry ∷ entries))
+front name names (must n v) entries same other fit has = inl (same, valued n name v same other fit, has)
+front name names (may n None) entries same other fit has = skip name names (fields_in entries) has
+front name names (may n (Some v)) entries same other fit has = inl (same, valued n name v same other fit, has)
+front name names closes entries same other fit has = inl (same, (record { all = refl }, λ e. refl), has)
 
-abbrev from_tag : List (List ℕ)
-from_tag = codes "etag" ∷ from_expires
+covers : (names : List (List ℕ)) (entries : List Entry) → are_among entries names ≡ true → AllByRecursion EntryFits entries
+    → HasSome names (fields_in entries)
+covers names [] among fit = tt
+covers [] (entry ∷ entries) among fit = absurd (true≢false (sym among))
+covers (name ∷ names) (entry ∷ entries) among (fit, fits) =
+    by_name (bytes_eq (entry_name entry) name) refl among (λ more. covers names entries more fits)
+    (λ more. covers names (entry ∷ entries) more (fit, fits))
+  where
+    by_name : (b : Bool) → bytes_eq (entry_name entry) name ≡ b
+        → cond b (is_other entry && are_among entries names) (are_among (entry ∷ entries) names) ≡ true
+        → (are_among entries names ≡ true → HasSome names (fields_in entries))
+        → (are_among (entry ∷ entries) names ≡ true → HasSome names (fields_in (entry ∷ entries)))
+        → HasSome (name ∷ names) (fields_in (entry ∷ entries))
+    by_name true same more here later =
+        let p = and_parts (is_other entry) (are_among entries names) more in
+        front name names entry entries ((bytes_eq-Decides _ _).0 same) p.0 fit (here p.1)
+    by_name false other more here later = skip name names (fields_in (entry ∷ entries)) (later more)
 
-abbrev from_dav : List (List ℕ)
-from_dav = codes "dav" ∷ from_tag
+-- ---- the fields of each reply
 
-abbrev from_type : List (List ℕ)
-from_type = codes "content-type" ∷ from_dav
+abbrev zero : Entry
+zero = must (codes "content-length") (codes "0")
 
-abbrev from_range : List (List ℕ)
-from_range = codes "content-range" ∷ from_type
+abbrev last_uncached : List Entry
+last_uncached = must (codes "expires") (codes "0") ∷ must (codes "pragma") (codes "no-cache") ∷ must (codes "vary") (codes "*") ∷ []
 
-abbrev from_length : List (List ℕ)
-from_length = codes "content-length" ∷ from_range
-
-abbrev from_connection : List (List ℕ)
-from_connection = codes "connection" ∷ from_length
-
-abbrev from_cache : List (List ℕ)
-from_cache = codes "cache-control" ∷ from_connection
-
-abbrev from_allow : List (List ℕ)
-from_allow = codes "allow" ∷ from_cache
-
--- no body, and its length
-abbrev zero_length : List Field
-zero_length = field (codes "content-length") (codes "0") ∷ []
-
-zero_some : HasSome from_length zero_length
-zero_some = next (codes "content-length") (codes "0") from_range [] refl (record { all = refl }) tt
-
--- what tells caches to keep nothing, behind the length
-uncached_some : (uncached : Bool) → HasSome from_range (uncached_last uncached)
-uncached_some true =
-    let vary : List Field = field (codes "vary") (codes "*") ∷ [] in
-    let pragma : List Field = field (codes "pragma") (codes "no-cache") ∷ vary in
-    let all : List Field = field (codes "expires") (codes "0") ∷ pragma in
-    skip (codes "content-range") from_type all (skip (codes "content-type") from_dav all
-    (skip (codes "dav") from_tag all (skip (codes "etag") from_expires all
-    (next (codes "expires") (codes "0") from_modified pragma refl (record { all = refl })
-    (skip (codes "last-modified") from_location pragma (skip (codes "location") from_author pragma
-    (skip (codes "ms-author-via") from_pragma pragma
-    (next (codes "pragma") (codes "no-cache") from_vary vary refl (record { all = refl })
-    (next (codes "vary") (codes "*") [] [] refl (record { all = refl }) tt)))))))))
-uncached_some false = tt
-
--- the length of a refusal, and what stands behind it
-abbrev refused_length : Bool → List Field
-refused_length uncached = field (codes "content-length") (codes "0") ∷ uncached_last uncached
-
-refused_length_some : (uncached : Bool) → HasSome from_length (refused_length uncached)
-refused_length_some uncached = next (codes "content-length") (codes "0") from_range (uncached_last uncached) refl (record { all = refl }) (uncached_some uncached)
-
-closing_some : (uncached close : Bool) → HasSome from_connection (closing close ++ refused_length uncached)
-closing_some uncached true = inl (refl, (record { all = refl }, λ e. refl), refused_length_some uncached)
-closing_some uncached false = skip (codes "connection") from_length (refused_length uncached) (refused_length_some uncached)
+abbrev uncached : Entry
+uncached = must (codes "cache-control") (codes "no-store, no-cache, must-revalidate")
 
 refused_some : (uncached close : Bool) → HasSome reply_names (refused_fields uncached close)
-refused_some true close =
-    let rest : List Field = closing close ++ refused_length true in
-    let all : List Field = field (codes "cache-control") (codes "no-store, no-cache, must-revalidate") ∷ rest in
-    skip (codes "accept-ranges") from_allow all (skip (codes "allow") from_cache all
-    (next (codes "cache-control") (codes "no-store, no-cache, must-revalidate") from_connection rest refl (record { all = refl }) (closing_some true close)))
-refused_some false close =
-    let rest : List Field = closing close ++ refused_length false in
-    skip (codes "accept-ranges") from_allow rest (skip (codes "allow") from_cache rest
-    (skip (codes "cache-control") from_connection rest (closing_some false close)))
+refused_some true true = covers reply_names (uncached ∷ closes ∷ zero ∷ last_uncached) refl
+    (record { all = refl }, (tt, (record { all = refl }, (record { all = refl }, (record { all = refl }, (record { all = refl }, tt))))))
+refused_some true false = covers reply_names (uncached ∷ zero ∷ last_uncached) refl
+    (record { all = refl }, (record { all = refl }, (record { all = refl }, (record { all = refl }, (record { all = refl }, tt)))))
+refused_some false true = covers reply_names (closes ∷ zero ∷ []) refl (tt, (record { all = refl }, tt))
+refused_some false false = covers reply_names (zero ∷ []) refl (record { all = refl }, tt)
 
 pub refusal_some : (fields : Fields) (status : ℕ) (close : Bool) → HasSome reply_names (refusal fields status close).fields
 refusal_some fields status close = refused_some (is_uncached fields status) close
 
 pub known_some : HasSome reply_names well_known.fields
-known_some =
-    next (codes "accept-ranges") (codes "bytes") from_allow zero_length refl (record { all = refl })
-    (skip (codes "allow") from_cache zero_length
-    (skip (codes "cache-control") from_connection zero_length (skip (codes "connection") from_length zero_length zero_some)))
+known_some = covers reply_names (must (codes "accept-ranges") (codes "bytes") ∷ zero ∷ []) refl
+    (record { all = refl }, (record { all = refl }, tt))
 
 pub redirect_some : (address : List ℕ) (tag date : Option (List ℕ)) → Fits address → FitsWhere (quoted_where tag) → FitsWhere date → HasSome reply_names (redirected_fields address tag date)
-redirect_some address tag date fits tagged dated =
-    let last : List Field = field (codes "location") address ∷ [] in
-    let times : List Field = field_where (codes "last-modified") date ++ last in
-    let rest : List Field = field_where (codes "etag") (quoted_where tag) ++ times in
-    let all : List Field = field (codes "content-length") (codes "0") ∷ rest in
-    skip (codes "accept-ranges") from_allow all (skip (codes "allow") from_cache all
-    (skip (codes "cache-control") from_connection all (skip (codes "connection") from_length all
-    (next (codes "content-length") (codes "0") from_range rest refl (record { all = refl })
-    (skip (codes "content-range") from_type rest (skip (codes "content-type") from_dav rest (skip (codes "dav") from_tag rest
-    (perhaps (codes "etag") (quoted_where tag) from_expires times refl tagged
-    (skip (codes "expires") from_modified times
-    (perhaps (codes "last-modified") date from_location last refl dated
-    (next (codes "location") address from_author [] refl fits tt)))))))))))
+redirect_some address tag date fits tagged dated = covers reply_names
+    (zero ∷ may (codes "etag") (quoted_where tag) ∷ may (codes "last-modified") date ∷ must (codes "location") address ∷ []) refl
+    (record { all = refl }, (tagged, (dated, (fits, tt))))
 
 pub sent_some : (gives : Bool) (type : List ℕ) (len : ℕ) (tag date : Option (List ℕ)) (sent : Sent) → Fits type → FitsWhere (quoted_where tag) → FitsWhere date
     → HasSome reply_names (sent_fields gives type len tag date sent)
-sent_some gives type len tag date sent fits tagged dated =
-    let times : List Field = field_where (codes "last-modified") date in
-    let tags : List Field = field_where (codes "etag") (quoted_where tag) ++ times in
-    let types : List Field = field (codes "content-type") (sent_type type sent) ∷ tags in
-    let ranges : List Field = field_where (codes "content-range") (sent_range len sent) ++ types in
-    let lengths : List Field = field_where (codes "content-length") (option_map decimal (sent_length gives len sent)) ++ ranges in
-    next (codes "accept-ranges") (codes "bytes") from_allow lengths refl (record { all = refl })
-    (skip (codes "allow") from_cache lengths (skip (codes "cache-control") from_connection lengths (skip (codes "connection") from_length lengths
-    (perhaps (codes "content-length") (option_map decimal (sent_length gives len sent)) from_range ranges refl (length_fits gives len sent)
-    (perhaps (codes "content-range") (sent_range len sent) from_type types refl (range_fits len sent)
-    (next (codes "content-type") (sent_type type sent) from_dav tags refl (sent_type_fits type sent fits)
-    (skip (codes "dav") from_tag tags (perhaps (codes "etag") (quoted_where tag) from_expires times refl tagged
-    (skip (codes "expires") from_modified times
-    (perhaps_last (codes "last-modified") date from_location refl dated))))))))))
+sent_some gives type len tag date sent fits tagged dated = covers reply_names
+    (must (codes "accept-ranges") (codes "bytes") ∷ may (codes "content-length") (option_map decimal (sent_length gives len sent))
+    ∷ may (codes "content-range") (sent_range len sent) ∷ must (codes "content-type") (sent_type type sent)
+    ∷ may (codes "etag") (quoted_where tag) ∷ may (codes "last-modified") date
+    ∷ must (codes "x-content-type-options") (codes "nosniff") ∷ []) refl
+    (record { all = refl }, (length_fits gives len sent, (range_fits len sent, (sent_type_fits type sent fits, (tagged, (dated, (record { all = refl }, tt)))))))
 
 pub page_some : HasSome reply_names page_fields
-page_some =
-    skip (codes "accept-ranges") from_allow page_fields (skip (codes "allow") from_cache page_fields (skip (codes "cache-control") from_connection page_fields (skip (codes "connection") from_length page_fields
-    (skip (codes "content-length") from_range page_fields (skip (codes "content-range") from_type page_fields
-    (next (codes "content-type") (codes "text/html; charset=utf-8") from_dav [] refl (record { all = refl }) tt))))))
+page_some = covers reply_names (must (codes "content-type") (codes "text/html; charset=utf-8") ∷ []) refl (record { all = refl }, tt)
 
 -- words behind their separators
 behind_fits : (separator : List ℕ) (words : List (List ℕ)) → Fits separator → AllByRecursion Fits words → Fits (flat_map (λ word. separator ++ word) words)
@@ -313,24 +271,15 @@ some_fit test (method ∷ methods) (p, all) = by_test (test method) (some_fit te
 
 pub allowing_some : (allow : Option DavMethodSet) (void : Bool) → HasSome reply_names (allowing allow void).fields
 allowing_some allow void =
-    let last : List Field = field (codes "ms-author-via") (codes "DAV") ∷ [] in
-    let classes : List Field = field (codes "dav") (codes "1,3,calendar-access,addressbook") ∷ last in
-    let lengths : List Field = field (codes "content-length") (codes "0") ∷ classes in
     let words : Fits (join_by (λ word. word) (codes ",") (words_told allow void)) =
     joined_fits (codes ",") (words_told allow void) (record { all = refl })
     (some_fit (is_told allow void) answered
     (record { all = refl }, (record { all = refl }, (record { all = refl }, (record { all = refl }, (record { all = refl }, (record { all = refl }, (record { all = refl }, (record { all = refl }, (record { all = refl }, (record { all = refl }, tt))))))))))) in
-    skip (codes "accept-ranges") from_allow (allowing allow void).fields
-    (next (codes "allow") (join_by (λ word. word) (codes ",") (words_told allow void)) from_cache lengths refl words
-    (skip (codes "cache-control") from_connection lengths (skip (codes "connection") from_length lengths
-    (next (codes "content-length") (codes "0") from_range classes refl (record { all = refl })
-    (skip (codes "content-range") from_type classes (skip (codes "content-type") from_dav classes
-    (next (codes "dav") (codes "1,3,calendar-access,addressbook") from_tag last refl (record { all = refl })
-    (skip (codes "etag") from_expires last (skip (codes "expires") from_modified last (skip (codes "last-modified") from_location last
-    (skip (codes "location") from_author last
-    (next (codes "ms-author-via") (codes "DAV") from_pragma [] refl (record { all = refl }) tt))))))))))))
+    covers reply_names
+    (must (codes "allow") (join_by (λ word. word) (codes ",") (words_told allow void)) ∷ zero
+    ∷ must (codes "dav") (codes "1,3,calendar-access,addressbook") ∷ must (codes "ms-author-via") (codes "DAV") ∷ []) refl
+    (words, (record { all = refl }, (record { all = refl }, (record { all = refl }, tt))))
 
 -- the answer of what was made
 pub made_some : HasSome reply_names (field (codes "content-length") (codes "0") ∷ [])
-made_some = skip (codes "accept-ranges") from_allow zero_length (skip (codes "allow") from_cache zero_length
-    (skip (codes "cache-control") from_connection zero_length (skip (codes "connection") from_length zero_length zero_some)))
+made_some = covers reply_names (zero ∷ []) refl (record { all = refl }, tt)

@@ -15,11 +15,11 @@ ghost use Rattle.dav_upload_laws.specs.Swept.{Swept};
 ghost use Rattle.dav_upload_laws.specs.Written.{finds_as_written};
 
 use crate::running::{Ending, Task, perform};
-use dav_cache::Remember;
 use dav_core::Disk;
 use dav_io::Source;
 use dav_local::{LocalFs, LocalFsFile};
 use dav_local_laws::local_stores_refuse_few;
+use dav_memory::Remember;
 use dav_store::{DavFile, DavFileSystem};
 use dav_upload_laws::{local_stores_take_uploads, local_sweeps_take_what_is_left};
 use std::alloc::Global;

@@ -4,7 +4,7 @@ use Rattle.std.specs.Borrow.{GName}
 use Rattle.dav_core.specs.DavPath.{WebPath}
 use Rattle.dav_core.specs.Disk.{DiskState}
 use Rattle.dav_core.specs.World.{World}
-use Rattle.dav_cache.specs.Memory.{MemoryState}
+use Rattle.dav_memory.specs.Memory.{MemoryState}
 use Rattle.dav_local.specs.declared.fs.LocalFs.{LocalFs}
 use Rattle.dav_local.proofs.LocalView.{at, local_view}
 use Rattle.dav_readcache.specs.Sound.{IsWorldThere, OpensTold}

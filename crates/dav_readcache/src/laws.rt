@@ -20,9 +20,9 @@ ghost use Rattle.dav_readcache.specs.Sound.{AreFaithful, AreFilesTold, AreSound,
 ghost use Rattle.dav_readcache.specs.Store.{cache_listings, cache_view};
 
 use crate::{CachedFile, ReadCache};
-use dav_cache::Remember;
 use dav_core::Disk;
 use dav_local::LocalFs;
+use dav_memory::Remember;
 use dav_store::{DavFile, DavFileSystem, GuardedFileSystem};
 
 /// A file is shown as it stands where the content that is held is sound.

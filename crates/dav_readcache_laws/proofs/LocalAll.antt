@@ -23,7 +23,7 @@ use Rattle.dav_model.specs.Finding.{EndsLoosely}
 use Rattle.dav_model.specs.Unset.{nothing_set}
 use Rattle.dav_model.proofs.LooseWalks.{found_exactly}
 use Rattle.dav_model.proofs.PlainWalks.{plain_resolved}
-use Rattle.dav_cache.specs.Memory.{MemoryState}
+use Rattle.dav_memory.specs.Memory.{MemoryState}
 use Rattle.dav_get.specs.Told.{ShowsFor}
 use Rattle.dav_local.specs.declared.entry.LocalFsDirEntry.{LocalFsDirEntry}
 use Rattle.dav_local.specs.declared.file.LocalFsFile.{LocalFsFile}

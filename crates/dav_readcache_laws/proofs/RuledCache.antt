@@ -12,7 +12,7 @@ use Rattle.dav_store.specs.Files.{Spoiled}
 use Rattle.dav_store.specs.Leads.{ListedOn, begun as just_begun, goes_on, says as says_on}
 use Rattle.dav_store.specs.Members.{RunsOut, WasListed}
 use Rattle.dav_store.specs.View.{Listings, View}
-use Rattle.dav_cache.specs.Memory.{MemoryState}
+use Rattle.dav_memory.specs.Memory.{MemoryState}
 use Rattle.dav_local.specs.declared.entry.LocalFsDirEntry.{LocalFsDirEntry}
 use Rattle.dav_local.specs.declared.gathering.LocalFsReadDir.{LocalFsReadDir}
 use Rattle.dav_local.specs.declared.ways.Ways.{Ways}

@@ -35,10 +35,10 @@ ghost use Rattle.dav_readcache.specs.Store.{cache_listings, cache_view};
 ghost use Rattle.dav_readcache_laws.specs.Bodies.{Along, IsFileSound, IsGivenSound};
 ghost use Rattle.dav_readcache_laws.specs.Plain.{HasNoLink, listed, looked};
 
-use dav_cache::Remember;
 use dav_core::{DavError, DavMethod, DavPath, Disk};
 use dav_get::{GetBody, handle_get};
 use dav_local::{LocalFs, LocalFsFile};
+use dav_memory::Remember;
 use dav_model::{Answer, Outcome, Settings};
 use dav_readcache::{CachedFile, ReadCache};
 use dav_store::{DavFile, DavFileSystem, GuardedFileSystem};

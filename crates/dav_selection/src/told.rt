@@ -10,11 +10,11 @@ ghost use Rattle.dav_selection.specs.Shown.{ShowsFor};
 ghost use Rattle.dav_selection.specs.Told.{IsOf, MeetsNoLink, TellsTheTree, selection_of, stock_in};
 
 use crate::{addressbook_report, calendar_report};
-use dav_cache::Remember;
 use dav_core::{DavPath, Disk};
 use dav_local::LocalFs;
 use dav_local_laws::local_stores_show_the_tree;
 use dav_lock::Element;
+use dav_memory::Remember;
 use dav_report::{Report, ReportError};
 use dav_store::DavFileSystem;
 use std::alloc::Global;

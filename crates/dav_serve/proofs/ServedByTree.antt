@@ -1,5 +1,9 @@
 -- In a valid run each reply of all exchanges is that of the tree: what is known at an exchange was told before it.
-use Rattle.std.proofs.Common.{◌≡◌, List, [], ◌∷◌, Bool, ℕ, Ok, sym, ap, subst}
+use Rattle.std.proofs.Common.{◌≡◌, List, [], ◌∷◌, ◌++◌, Bool, ℕ, Result, Ok, sym, ap, subst, append_assoc}
+use Rattle.dav_io.specs.declared.failure.NoMemory.{NoMemory}
+use Rattle.dav_model.specs.declared.answer.Answer.{Answer}
+use Rattle.dav_model.specs.Play.{EachByTree}
+use Rattle.dav_serve.specs.Stages.{PlayedOn}
 use Rattle.dav_io.specs.Outside.{Stream}
 use Rattle.dav_model.specs.declared.step.Step.{Step}
 use Rattle.dav_model.specs.Play.{Ends, Playing, Stage}
@@ -31,3 +35,25 @@ pub served_by_tree : (setup : Setup) (closed : Bool) (before : Outside) (source 
     → Valid setup.rules setup.knows (before.disk ∷ points_of (moves_of setup.rules (ready setup.rules setup.knows before.disk) xs last v.played))
     → AllByTree setup.rules (ready setup.rules setup.knows before.disk) xs last v.played
 served_by_tree setup closed before source held xs last v valid = chain_by_tree setup.rules setup.knows before.disk xs last v.played valid
+
+-- What was played behind these exchanges: an answer that broke, or was cut.
+chain_last : (rules : Rules) (knows : Knowledge) (s : Point) (xs : List Exchange) (place : Stage) (chain : Chain rules (ready rules knows s) xs place)
+    (steps : List Step) (answers : List Answer) (result : Result Unit NoMemory) (b : Stage) (r : PlayedOn place steps answers result b)
+    → Valid rules knows (s ∷ points_of (moves_of rules (ready rules knows s) xs place chain ++ r.trail))
+    → EachByTree place.playing place.at r.trail r.played.player r.played.answered
+chain_last rules knows s [] place chain steps answers result b r valid =
+    r.headline (subst (λ (z : Stage). Valid z.playing.rules z.playing.knows (z.at ∷ points_of r.trail)) (sym chain) valid)
+chain_last rules knows s (x ∷ xs) place (m, p, chain) steps answers result b r valid =
+    let rest : List Move = moves_of rules (ready rules m.playing.knows m.at) xs place chain in
+    let joined : Valid rules knows (s ∷ points_of (p.trail ++ (rest ++ r.trail))) = subst (λ (z : List Move). Valid rules knows (s ∷ points_of z)) (append_assoc p.trail rest r.trail) valid in
+    let front = valid_front rules knows s p.trail (rest ++ r.trail) joined in
+    let learned = played_learned p.trail (ready rules knows s) m (steps_of x) [] (answers_of x) (Ok tt) p.played front.told in
+    let back = valid_back rules knows m.playing.knows s p.trail (rest ++ r.trail) joined learned in
+    chain_last rules m.playing.knows m.at xs place chain steps answers result b r
+    (subst (λ z. Valid rules m.playing.knows (z ∷ points_of (rest ++ r.trail))) (sym (ends_there p.played.rest (last_of s p.trail) p.played.player m p.played.ends)) back)
+
+pub last_by_tree : (setup : Setup) (closed : Bool) (before : Outside) (source : Stream) (held : List ℕ) (xs : List Exchange) (place : Stage) (v : Serving setup closed before source held xs place)
+    (steps : List Step) (answers : List Answer) (result : Result Unit NoMemory) (b : Stage) (r : PlayedOn place steps answers result b)
+    → Valid setup.rules setup.knows (before.disk ∷ points_of (moves_of setup.rules (ready setup.rules setup.knows before.disk) xs place v.played ++ r.trail))
+    → EachByTree place.playing place.at r.trail r.played.player r.played.answered
+last_by_tree setup closed before source held xs place v steps answers result b r valid = chain_last setup.rules setup.knows before.disk xs place v.played steps answers result b r valid

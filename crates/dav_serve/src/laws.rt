@@ -97,6 +97,16 @@ pub fn served_answers_are_those_of_the_tree()
         → AllByTree setup.rules (ready setup.rules setup.knows before.disk) xs last v.played }
 {}
 
+/// The same of what was played behind these exchanges: an answer that broke, or that was cut.
+pub fn cut_answers_are_those_of_the_tree()
+    ensures { (setup : Setup) (closed : Bool) (before : Outside) (source : Stream) (held : List ℕ) (xs : List Exchange)
+        (place : Stage) (v : Serving setup closed before source held xs place) (steps : List Step)
+        (answers : List Answer) (result : Result Unit NoMemory) (b : Stage) (r : PlayedOn place steps answers result b)
+        → Valid setup.rules setup.knows (before.disk
+        ∷ points_of (moves_of setup.rules (ready setup.rules setup.knows before.disk) xs place v.played ++ r.trail))
+        → EachByTree place.playing place.at r.trail r.played.player r.played.answered }
+{}
+
 /// A purge changes no later answer to a GET or HEAD: it leaves the player as it was but for what its memory knows, and
 /// in a valid run each later reply is that of the tree before its step, which no memory decides.
 pub fn purges_change_no_answer()

@@ -1,7 +1,7 @@
 // The top call: all that the program does, over what is handed in.
 ghost use Rattle.std.specs.Prelude.{◌≡◌, ◌≤◌, ◌+◌, ◌↔◌, IfOk, IfSome, None, Ok, OnErr, false, true};
 ghost use Rattle.dav_bench.specs.Report.{Benches};
-ghost use Rattle.dav_cache.specs.Memory.{memory_of};
+ghost use Rattle.dav_memory.specs.Memory.{memory_of};
 ghost use Rattle.dav_local.specs.Shown.{knowledge_of};
 ghost use Rattle.dav_mirror.specs.Mirrors.{Mirrors};
 ghost use Rattle.dav_model.specs.Rules.{nothing_known};

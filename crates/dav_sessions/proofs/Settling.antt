@@ -4,8 +4,8 @@ use Rattle.dav_core.specs.declared.time.FileTime.{FileTime}
 use Rattle.dav_core.specs.Path.{Names}
 use Rattle.dav_model.specs.Folds.{Name, is_dot as is_dotted}
 use Rattle.dav_model.specs.Rules.{SameDots}
-use Rattle.dav_cache.specs.Trees.{is_dot}
-use Rattle.dav_cache.proofs.Keys.{path_decides, time_decides}
+use Rattle.dav_memory.specs.Trees.{is_dot}
+use Rattle.dav_memory.proofs.Keys.{path_decides, time_decides}
 use Rattle.dav_shared.specs.Books.{Page, Listing, MaySettle, has_in, is_of, kept_by}
 use Rattle.dav_local.specs.Shown.{knowledge_of}
 use Rattle.dav_sessions.specs.Sessions.{known_by_page}

@@ -7,13 +7,13 @@ use Rattle.dav_core.specs.declared.handle.Meta.{Meta}
 use Rattle.dav_core.specs.declared.handle.DiskError.{DiskError}
 use Rattle.dav_core.specs.Disk.{DiskState, Metas}
 use Rattle.dav_core.specs.Tree.{is_dir}
-use Rattle.dav_cache.specs.declared.key.DuKey.{DuKey}
-use Rattle.dav_cache.specs.declared.du_cache.Sealed.TheVariants.{Done}
-use Rattle.dav_cache.specs.Trees.{Name, Names, FileTime, is_dot, same_name, same_path, same_time}
-use Rattle.dav_cache.specs.Entries.{are_sealable, is_time}
-use Rattle.dav_cache.specs.Calls.{has_time}
-use Rattle.dav_cache.specs.Memory.{LearnsNothing, MayDeny, Negates, Denied, SealsIn, WasKnown}
-use Rattle.dav_cache.proofs.Keys.{path_decides, time_decides}
+use Rattle.dav_memory.specs.declared.key.DuKey.{DuKey}
+use Rattle.dav_memory.specs.declared.sealed.Sealed.TheVariants.{Done}
+use Rattle.dav_memory.specs.Trees.{Name, Names, FileTime, is_dot, same_name, same_path, same_time}
+use Rattle.dav_memory.specs.Entries.{are_sealable, is_time}
+use Rattle.dav_memory.specs.Calls.{has_time}
+use Rattle.dav_memory.specs.Memory.{LearnsNothing, MayDeny, Negates, Denied, SealsIn, WasKnown}
+use Rattle.dav_memory.proofs.Keys.{path_decides, time_decides}
 use Rattle.dav_shared.specs.Books.{Page, Listing, IsUntold, has_in, is_of, kept_by, known_in}
 use Rattle.std.specs.Option.{is_some}
 use Rattle.dav_shared.specs.declared.waiting.Waiting.{Waiting}

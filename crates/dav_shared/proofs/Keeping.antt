@@ -6,15 +6,15 @@ use Rattle.std.proofs.lemmas.Bool.{and_parts, not-true}
 use Rattle.std.proofs.lemmas.Bool.Decides.{Decides-eqb}
 use Rattle.std.specs.Option.{option_map_or}
 use Rattle.dav_io.specs.declared.clock.Moment.{Moment}
-use Rattle.dav_cache.specs.declared.du_cache.Sealed.{Sealed}
-use Rattle.dav_cache.specs.declared.du_cache.Sealed.TheVariants.{Done, Last, NoMemory}
-use Rattle.dav_cache.specs.Trees.{Name, Names, FileTime, is_dot, same_name, same_time}
-use Rattle.dav_cache.specs.declared.key.DuKey.{DuKey}
-use Rattle.dav_cache.specs.declared.key.DuEntry.{DuEntry}
-use Rattle.dav_cache.specs.Entries.{Dots, DotCache, Listed, AreCounted, are_sealable, sealed, purged, without, is_old_dot, dir_key, name_key, same_key, stands}
-use Rattle.dav_cache.specs.Calls.{Seals}
-use Rattle.dav_cache.proofs.Keys.{path_tells, name_tells, time_decides}
-use Rattle.dav_cache.proofs.Lists.{purged-take}
+use Rattle.dav_memory.specs.declared.sealed.Sealed.{Sealed}
+use Rattle.dav_memory.specs.declared.sealed.Sealed.TheVariants.{Done, Last, NoMemory}
+use Rattle.dav_memory.specs.Trees.{Name, Names, FileTime, is_dot, same_name, same_time}
+use Rattle.dav_memory.specs.declared.key.DuKey.{DuKey}
+use Rattle.dav_memory.specs.declared.key.DuEntry.{DuEntry}
+use Rattle.dav_memory.specs.Entries.{Dots, DotCache, Listed, AreCounted, are_sealable, sealed, purged, without, is_old_dot, dir_key, name_key, same_key, stands}
+use Rattle.dav_memory.specs.Calls.{Seals}
+use Rattle.dav_memory.proofs.Keys.{path_tells, name_tells, time_decides}
+use Rattle.dav_memory.proofs.Lists.{purged-take}
 use Rattle.dav_cache.proofs.MemoryCalls.{SameFor, same-take, same-dropped, sealed-others, sealed-own}
 use Rattle.dav_shared.specs.Books.{Page, KeepsTo, MaySeal, IsUntold, has_in, stands_at}
 

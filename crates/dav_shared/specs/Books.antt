@@ -3,11 +3,11 @@ use Rattle.std.specs.Prelude.{pos, ◌≡◌, ◌==◌, ◌&&◌, ℕ, Bool, fal
 use Rattle.std.specs.List.{list_any}
 use Rattle.std.specs.Option.{option_map_or}
 use Rattle.std.specs.Map.{lookup}
-use Rattle.dav_cache.specs.Trees.{Name, Names, FileTime, is_dot, same_name, same_path, same_time}
-use Rattle.dav_cache.specs.declared.key.DuKey.{DuKey}
-use Rattle.dav_cache.specs.declared.key.DuEntry.{DuEntry}
-use Rattle.dav_cache.specs.Entries.{Dots, dir_key, name_key, same_key, stands}
-use Rattle.dav_cache.specs.Memory.{Known, MemoryState}
+use Rattle.dav_memory.specs.Trees.{Name, Names, FileTime, is_dot, same_name, same_path, same_time}
+use Rattle.dav_memory.specs.declared.key.DuKey.{DuKey}
+use Rattle.dav_memory.specs.declared.key.DuEntry.{DuEntry}
+use Rattle.dav_memory.specs.Entries.{Dots, dir_key, name_key, same_key, stands}
+use Rattle.dav_memory.specs.Memory.{Known, MemoryState}
 
 -- the names that begin with `._` of a directory path at a time, where they are told
 abbrev pub Page : Type 0

@@ -6,12 +6,12 @@ use Rattle.dav_core.specs.declared.handle.Meta.{Meta}
 use Rattle.dav_core.specs.declared.handle.DiskError.{DiskError}
 use Rattle.dav_core.specs.Disk.{DiskState, Metas, Opens}
 use Rattle.dav_core.specs.Writing.{reading}
-use Rattle.dav_cache.specs.declared.du_cache.Sealed.{Sealed}
-use Rattle.dav_cache.specs.declared.du_cache.Sealed.TheVariants.{Done}
-use Rattle.dav_cache.specs.declared.key.DuKey.{DuKey}
-use Rattle.dav_cache.specs.Trees.{Name, Names, FileTime, fold_path}
-use Rattle.dav_cache.specs.Entries.{DotCache}
-use Rattle.dav_cache.specs.Calls.{Seals}
+use Rattle.dav_memory.specs.declared.sealed.Sealed.{Sealed}
+use Rattle.dav_memory.specs.declared.sealed.Sealed.TheVariants.{Done}
+use Rattle.dav_memory.specs.declared.key.DuKey.{DuKey}
+use Rattle.dav_memory.specs.Trees.{Name, Names, FileTime, fold_path}
+use Rattle.dav_memory.specs.Entries.{DotCache}
+use Rattle.dav_memory.specs.Calls.{Seals}
 
 -- A listing is sealed where it is of the folder of the cache, and else nothing is done.
 abbrev pub SealsFor : Bool → DotCache → DuKey → FileTime → Moment → List Name → Sealed → DotCache → Type 0

@@ -1,5 +1,5 @@
 ghost use Rattle.std.specs.Prelude.{◌≡◌, ℕ, List, Option};
-ghost use Rattle.dav_cache.specs.Trees.{Name, Names, FileTime as Time};
+ghost use Rattle.dav_memory.specs.Trees.{Name, Names, FileTime as Time};
 ghost use Rattle.dav_shared.specs.Books as books;
 
 /// What is told of folders: for a folder's number, a directory and a time, the directory's names that begin with `._`,

@@ -1,7 +1,7 @@
 // The cache of absent names as its lock keeps it.
 ghost use Rattle.std.specs.Prelude.{◌≡◌, ◌<◌, ◌==◌, ◌&&◌, [], IfOk, IsTrue, None, not, option_map, true, if◌then◌else◌};
-ghost use Rattle.dav_cache.specs.Trees.{Name};
-ghost use Rattle.dav_cache.specs.Entries.{are_sealable, is_old_dot, purged, same_key, stands, without, name_key as the_name_key};
+ghost use Rattle.dav_memory.specs.Trees.{Name};
+ghost use Rattle.dav_memory.specs.Entries.{are_sealable, is_old_dot, purged, same_key, stands, without, name_key as the_name_key};
 ghost use Rattle.std.specs.Map.{lookup};
 ghost use Rattle.dav_shared.specs.Books.{IsUntold, KeepsTo, MaySeal, denies_at, stands_at};
 ghost use Rattle.dav_shared.specs.Holds.{SealsFor};

@@ -1,10 +1,10 @@
 ghost use Rattle.std.specs.Prelude.{◌≡◌, ◌<◌, IfOk, IfSome, IsTrue, OnErr, None, option_map, true};
 ghost use Rattle.std.specs.Map.{lookup};
 ghost use Rattle.dav_core.specs.Disk.{Metas};
-ghost use Rattle.dav_cache.specs.Calls.{LacksMemory, Opening, Seeing, has_time as the_has_time};
-ghost use Rattle.dav_cache.specs.Entries.{are_sealable, promoted, name_key as the_name_key};
-ghost use Rattle.dav_cache.specs.Memory.{GetsBy, Negates};
-ghost use Rattle.dav_cache.specs.Trees.{Name, fold_path, same_path};
+ghost use Rattle.dav_memory.specs.Calls.{LacksMemory, Opening, Seeing, has_time as the_has_time};
+ghost use Rattle.dav_memory.specs.Entries.{are_sealable, promoted, name_key as the_name_key};
+ghost use Rattle.dav_memory.specs.Memory.{GetsBy, Negates};
+ghost use Rattle.dav_memory.specs.Trees.{Name, fold_path, same_path};
 ghost use Rattle.dav_shared.specs.Books.{IsUntold, MaySeal, MaySettle, kept_by};
 ghost use Rattle.dav_shared.specs.Holds.{AsksFor, LooksAt, OpensToRead};
 ghost use Rattle.dav_shared.specs.Waits.{waiting};

@@ -1,10 +1,10 @@
 ghost use Rattle.std.specs.Prelude.{◌≡◌, ◌&&◌, ◌<◌, IfOk, IsTrue, List, None, OnErr, OnOk, Ok, Some, Err, true, false};
 ghost use Rattle.std.specs.List.{list_any};
 ghost use Rattle.dav_core.specs.Disk.{Metas};
-ghost use Rattle.dav_cache.specs.Trees.{Name, same_name};
-ghost use Rattle.dav_cache.specs.Calls.{LacksMemory};
-ghost use Rattle.dav_cache.specs.Entries.{are_sealable};
-ghost use Rattle.dav_cache.specs.Memory.{Gets, GetsOpen, Inserts, Negates, Purges, SealsIn};
+ghost use Rattle.dav_memory.specs.Trees.{Name, same_name};
+ghost use Rattle.dav_memory.specs.Calls.{LacksMemory};
+ghost use Rattle.dav_memory.specs.Entries.{are_sealable};
+ghost use Rattle.dav_memory.specs.Memory.{Gets, GetsOpen, Inserts, Negates, Purges, SealsIn};
 ghost use Rattle.dav_shared.specs.Books.{kept_by};
 ghost use Rattle.dav_shared.specs.Holds.{AsksFor, LooksAt, OpensToRead};
 ghost use Rattle.dav_shared.specs.Waits.{WaitsThen, listing_of, lists, waiting};

@@ -35,9 +35,9 @@ use Rattle.dav_upload.specs.Shown.{IsCommitted, IsHiddenIn, SameShown, StandsBes
 use Rattle.dav_upload.specs.Standing.{OthersOpen, StandsIn}
 use Rattle.dav_upload.specs.Steps.{Began, Committed, IsBeside, IsClear, Pieced, SameLinks, is_fault}
 use Rattle.dav_upload.specs.Takes.{TakesUploads}
-use Rattle.dav_upload.specs.Uploading.{AfterClose, AfterJudged, AfterJudging, AfterMove, Aborts, Begins, BeginsAs, Commits, Judges, PieceOn, WritesPiece, is_refused, opened_as, refused_by}
+use Rattle.dav_upload.specs.Uploading.{AfterClose, AfterJudged, AfterJudging, AfterMove, Aborts, Begins, BeginsAs, Commits, Judges, PieceOn, WritesPiece, done_as, is_refused, opened_as, refused_by}
 use Rattle.dav_upload.proofs.Beside.{below_greatest, file_beside, file_hidden, none_hidden, placed_above, hidden_some}
-use Rattle.dav_upload.proofs.Ends.{MayBeDone, may_move, moved_or_left, none_taken, taken_or_left, unlinked_after, edit_of}
+use Rattle.dav_upload.proofs.Ends.{MayBeDone, may_move, moved_or_left, none_taken, surely_taken, taken_gone, taken_or_left, unlinked_after, edit_of}
 use Rattle.dav_upload.proofs.Hiding.{taken_unseen}
 use Rattle.dav_upload.proofs.Making.{filled_unseen, kept_unseen, made_unseen, written_behind}
 use Rattle.dav_upload.proofs.Kept.{same_keep}
@@ -382,3 +382,61 @@ module _ {S C F : Type 0} (view : View S C F) (writes : Writes F) (c : C) (test 
         by false e (may, m, judges, keeps, after) =
             subst (λ b. Committed u.target.names b pieces result v w) (sym e)
             (ends_judged beside clear e m (judged_waits commits.closed m x fields may judges keeps) may result after)
+
+    -- ---- the hidden name is gone
+
+    module _ (outcome : Outcome) (beside : IsBeside u.target.names u.hidden.names) (clear : IsClear v u.target.names u.hidden.names) (whole : u.broken ≡ false) where
+      gone_moved : (m k : S) (x : Waits m) (z : World) → (view.state k).told ≡ Some z → (r : Result Unit FsError) → view.renames m c u.hidden u.target r k → (given : Outcome)
+          → AfterMove view c r given u.hidden k (Ok outcome) t → row_at w.tree u.hidden.names ≡ None
+      gone_moved m k x z there (Ok y) renames given (same, is) =
+          elim (moved beside clear whole m k x z there (Ok y) renames) [
+            | inl (commits, none, free, done) ↦
+                let end : z ≡ w = one_told (view.state k).told z w there (sym (ap (λ a. (view.state a).told) same) ∙ now) in
+                subst (λ a. row_at a.tree u.hidden.names ≡ None) end none
+            | inr (same, never_ok) ↦ absurd (never_ok refl)
+          ]
+      gone_moved m k x z there (Err e) renames given (removes, is) = absurd (no_ok is)
+        where
+          no_ok : {a : Outcome} {b : UploadError} → ◌≡◌ {A = Result Outcome UploadError} (Ok a) (Err b) → ⊥
+          no_ok f = cc
+
+      gone_judged : (m : S) (x : Waits m) (may : Given) → AfterJudged view c may u.target u.hidden m (Ok outcome) t → row_at w.tree u.hidden.names ≡ None
+      gone_judged m x (Err e) (removes, is) = absurd (no_ok is)
+        where
+          no_ok : {a : Outcome} {b : UploadError} → ◌≡◌ {A = Result Outcome UploadError} (Ok a) (Err b) → ⊥
+          no_ok f = cc
+      gone_judged m x (Ok given) (r, k, renames, keeps, after) =
+          let moves_told = takes_all.moves m k u.hidden u.target r x.plainly renames in
+          let (z, there, so) = told_after (view.state m).told (view.state k).told _ x.world moves_told.1 x.here in
+          gone_moved m k x z there r renames given after
+
+    pub commit_gone : (fields : Fields) (outcome : Outcome) → IsBeside u.target.names u.hidden.names → IsClear v u.target.names u.hidden.names → Commits view c u fields s (Ok outcome) t
+        → row_at w.tree u.hidden.names ≡ None
+    commit_gone fields outcome beside clear commits = by u.broken refl commits.ends
+      where
+        x : Waits commits.closed
+        x = closed_waits commits.closed commits.closes
+
+        no_ok : {a : Outcome} {b : UploadError} → ◌≡◌ {A = Result Outcome UploadError} (Ok a) (Err b) → ⊥
+        no_ok f = cc
+
+        by : (b : Bool) → u.broken ≡ b → AfterClose view c b u.target u.hidden fields commits.closed (Ok outcome) t → row_at w.tree u.hidden.names ≡ None
+        by true e (removes, is) = absurd (no_ok is)
+        by false e (may, m, judges, keeps, after) = gone_judged outcome beside clear e m (judged_waits commits.closed m x fields may judges keeps) may after
+
+    pub abort_gone : is_linked v.tree u.hidden.names ≡ false → Aborts view c u s (Ok tt) t → row_at w.tree u.hidden.names ≡ None
+    abort_gone clear aborts = by aborts.answer aborts.is aborts.removes
+      where
+        x : Waits aborts.closed
+        x = closed_waits aborts.closed aborts.closes
+
+        no_err : {a : Unit {0}} {b : UploadError} → ◌≡◌ {A = Result Unit UploadError} (Ok a) (Err b) → ⊥
+        no_err f = cc
+
+        by : (answer : Result Unit FsError) → Ok tt ≡ done_as answer → view.removes_file aborts.closed c u.hidden answer t → row_at w.tree u.hidden.names ≡ None
+        by (Err e) is removes = absurd (no_err is)
+        by (Ok y) is removes =
+            let ends = told_pair (view.state aborts.closed).told (view.state t).told _ x.world w (takes_all.removes aborts.closed t u.hidden (Ok y) x.plainly removes).1 x.here now
+            (ap (λ tree. is_linked tree u.hidden.names) x.same.tree ∙ clear) in
+            taken_gone x.world w u.hidden.names
+            (surely_taken x.world w u.hidden.names stands.row (takes_all.worlds aborts.closed x.world x.here) (row_waits aborts.closed x) stands.kind ends)

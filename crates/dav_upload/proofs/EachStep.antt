@@ -2,9 +2,9 @@
 use Rattle.std.specs.Prelude.{Bool}
 use Rattle.dav_store.specs.View.{Listings, View}
 use Rattle.dav_walks.specs.Pouring.{Writes}
-use Rattle.dav_upload.specs.EachStep.{AreWhole, LeaveOthers, SweepsAreUnseen, SweepsLeaveOthers}
+use Rattle.dav_upload.specs.EachStep.{AreWhole, LeaveNoName, LeaveOthers, SweepsAreUnseen, SweepsLeaveOthers}
 use Rattle.dav_upload.specs.Takes.{ReadsPlainly, TakesUploads}
-use Rattle.dav_upload.proofs.Chains.{aborted, began, committed, pieced}
+use Rattle.dav_upload.proofs.Chains.{abort_gone, aborted, began, commit_gone, committed, pieced}
 use Rattle.dav_upload.proofs.StepsLeave.{abort_left, begin_left, commit_left, piece_left}
 use Rattle.dav_upload.proofs.Sweeps.{swept}
 use Rattle.dav_upload.proofs.SweepsLeave.{sweep_left}
@@ -24,6 +24,12 @@ module _ {S C F : Type 0} (view : View S C F) (writes : Writes F) (c : C) (test 
     pieces = piece_left view writes c test takes_all;
     commits = λ u s t v w pieces fields r was now plain stands beside clear. commit_left view writes c test takes_all u s t v w pieces was now stands plain beside clear fields r;
     aborts = λ u s t v w pieces r was now plain stands. abort_left view writes c test takes_all u s t v w pieces was now stands plain r;
+  }
+
+  pub leave_no_name : LeaveNoName view writes c test
+  leave_no_name = record {
+    commits = λ u s t v w pieces fields outcome was now plain stands. commit_gone view writes c test takes_all u s t v w pieces was now stands plain fields outcome;
+    aborts = λ u s t v w pieces was now plain stands. abort_gone view writes c test takes_all u s t v w pieces was now stands plain;
   }
 
   module _ {L E : Type 0} (lists : Listings S C L E) (reads : ReadsPlainly view lists c test) where

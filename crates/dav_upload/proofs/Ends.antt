@@ -20,7 +20,8 @@ use Rattle.dav_core.proofs.PlaceLemmas.{placed_row}
 use Rattle.dav_upload.specs.Ends.{EndsAs, is_spoiled}
 use Rattle.dav_upload.specs.Shown.{StandsBeside}
 use Rattle.dav_upload.proofs.Beside.{looked_at}
-use Rattle.dav_upload.proofs.Moving.{path_of}
+use Rattle.std.specs.Option.{option_map}
+use Rattle.dav_upload.proofs.Moving.{gone_at, path_of, timed_at}
 use Rattle.dav_core.proofs.LeftLemmas.{left_refused}
 use Rattle.dav_core.proofs.LookLemmas.{not_looked}
 use Rattle.dav_core.proofs.Paths.{not_root, names_same}
@@ -49,6 +50,17 @@ taken_or_left v w hidden row (Err e) is at kind left =
     by false same = inr same
     by true (inl same) = inr same
     by true (inr (part, none, edited)) = absurd none
+
+-- a removal that was done took the hidden file
+pub surely_taken : (v w : World) (hidden : Names) (row : Row) → IsWorld v → row_at v.tree hidden ≡ Some row → row.kind ≡ File → EndsAs (taking_file v.tree hidden) (Ok tt) v w → Edited (takes hidden) v w
+surely_taken v w hidden row is at kind (edit, allowed, edited) =
+    let same : Some (takes hidden) ≡ edit = edit_of (Some (takes hidden)) edit (sym (takes_allowed v hidden row is at kind) ∙ allowed) in
+    subst (λ e. EditedBy e v w) (sym same) edited
+
+-- nothing stands at the hidden name behind it
+pub taken_gone : (v w : World) (hidden : Names) → Edited (takes hidden) v w → row_at w.tree hidden ≡ None
+taken_gone v w hidden (t, new, becomes) =
+    ap (λ rows. row_at rows hidden) becomes.tree ∙ (timed_at (parent_of hidden) t (without hidden v.tree) hidden ∙ ap (option_map (timed_row (parent_of hidden) t)) (gone_at hidden v.tree))
 
 -- where nothing stands nothing is taken
 pub none_taken : (v w : World) (hidden : Names) (r : Result Unit FsError) → row_at v.tree hidden ≡ None → EndsAs (taking_file v.tree hidden) r v w → SameBesidesOpens v w

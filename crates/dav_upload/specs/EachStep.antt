@@ -1,7 +1,7 @@
 -- What holds of each step of an upload, over a store of which `test` says that it finds paths as they are written.
-use Rattle.std.specs.Prelude.{◌≡◌, ℕ, List, Bool, true, false, None, Some, Result}
+use Rattle.std.specs.Prelude.{◌≡◌, ℕ, List, Bool, true, false, None, Some, Ok, Result}
 use Rattle.dav_core.specs.DavPath.{WebPath}
-use Rattle.dav_core.specs.Tree.{is_linked}
+use Rattle.dav_core.specs.Tree.{is_linked, row_at}
 use Rattle.dav_core.specs.World.{World}
 use Rattle.dav_model.specs.declared.outcome.Outcome.{Outcome}
 use Rattle.dav_model.specs.Conditions.{Fields}
@@ -65,6 +65,18 @@ module _ {S C F : Type 0} (view : View S C F) (writes : Writes F) (c : C) (test 
         → is_linked v.tree u.hidden.names ≡ false → Aborts view c u s r t
         → LeavesOthers (Some (view.file.handle u.file)) (IsNot u.hidden.names) (view.state s).live (view.state t).live
         v w
+
+  -- Nothing stands at the hidden name behind a commit and an abort that worked.
+  pub record LeaveNoName : Type 0 where
+    pub commits : (u : Upload F) (s t : S) (v w : World) (pieces : List ℕ) (fields : Fields) (outcome : Outcome)
+        → (view.state s).told ≡ Some v → (view.state t).told ≡ Some w
+        → test s ≡ true → StandsIn (view.state s).live v u.hidden.names (view.file.handle u.file) u.broken pieces
+        → IsBeside u.target.names u.hidden.names → IsClear v u.target.names u.hidden.names
+        → Commits view c u fields s (Ok outcome) t → row_at w.tree u.hidden.names ≡ None
+    pub aborts : (u : Upload F) (s t : S) (v w : World) (pieces : List ℕ)
+        → (view.state s).told ≡ Some v → (view.state t).told ≡ Some w → test s ≡ true
+        → StandsIn (view.state s).live v u.hidden.names (view.file.handle u.file) u.broken pieces
+        → is_linked v.tree u.hidden.names ≡ false → Aborts view c u s (Ok tt) t → row_at w.tree u.hidden.names ≡ None
 
 module _ {S C F L E : Type 0} (view : View S C F) (lists : Listings S C L E) (c : C) (test : S → Bool) where
   -- A sweep leaves what is shown.

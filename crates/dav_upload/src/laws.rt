@@ -9,7 +9,7 @@ ghost use Rattle.dav_core.specs.World.{Holds, IsWorld, OpenFile, SameBesidesOpen
 ghost use Rattle.dav_core.specs.Disk.{DiskState, Live};
 ghost use Rattle.dav_core.specs.Unchanged.{Keeps, KeepsBut};
 ghost use Rattle.dav_core.specs.Tree.{row_at};
-ghost use Rattle.dav_upload.specs.EachStep.{AreWhole, LeaveOthers, SweepsAreUnseen, SweepsLeaveOthers};
+ghost use Rattle.dav_upload.specs.EachStep.{AreWhole, LeaveNoName, LeaveOthers, SweepsAreUnseen, SweepsLeaveOthers};
 ghost use Rattle.dav_upload.specs.Kept.{KeepsRow};
 ghost use Rattle.dav_upload.specs.Others.{IsAny, LeavesOthers};
 ghost use Rattle.dav_upload.specs.Standing.{OthersOpen, StandsIn};
@@ -86,6 +86,12 @@ pub fn uploads_leave_others<S: GuardedFileSystem<C>, C>(_fs: &S, _credentials: &
     ensures sweeps { (test : S → Bool) → TakesUploads S.view S.File.view.writes _credentials.now test
         → ReadsPlainly S.view S.listings _credentials.now test
         → SweepsLeaveOthers S.view S.listings _credentials.now test }
+{}
+
+/// Over such a store nothing stands at the hidden name behind a commit and an abort that worked.
+pub fn ended_uploads_leave_no_name<S: GuardedFileSystem<C>, C>(_fs: &S, _credentials: &C)
+    ensures { (test : S → Bool) → TakesUploads S.view S.File.view.writes _credentials.now test
+        → LeaveNoName S.view S.File.view.writes _credentials.now test }
 {}
 
 /// Calls that write nothing leave what is shown, and each upload standing: those that leave nothing open, those that

@@ -9,9 +9,9 @@ mod upload;
 
 pub use error::UploadError;
 pub use laws::{
-    edits_keep_bytes, hidden_edits_are_unseen, moves_commit, pieces_are_held, pieces_stand_behind,
-    reads_leave_uploads, removals_are_unseen, tokens_are_hidden, uploads_are_whole,
-    uploads_leave_others, uploads_stand_on,
+    edits_keep_bytes, ended_uploads_leave_no_name, hidden_edits_are_unseen, moves_commit,
+    pieces_are_held, pieces_stand_behind, reads_leave_uploads, removals_are_unseen,
+    tokens_are_hidden, uploads_are_whole, uploads_leave_others, uploads_stand_on,
 };
 pub use names::{is_hidden, is_taken};
 pub use sweeping::sweep;

@@ -22,7 +22,7 @@ use Rattle.dav_store.specs.Standing.{Seen, Standing}
 use Rattle.dav_store.specs.Files.{SeeksIn}
 use Rattle.dav_store.specs.View.{Listings, Says, Seeks, View, seen_in}
 use Rattle.dav_walks.specs.Pouring.{Writes}
-use Rattle.dav_cache.specs.Memory.{MemoryState}
+use Rattle.dav_memory.specs.Memory.{MemoryState}
 use Rattle.dav_model.specs.declared.sent.Sent.{Sent}
 use Rattle.dav_model.specs.Due.{Course, OfItsPaths, Query, course, dir_course, directing, index_course, index_path, listing, opening, page_course, refusing}
 use Rattle.dav_model.specs.Due as due

@@ -5,7 +5,7 @@ use Rattle.dav_store.specs.View.{Listings, View}
 use Rattle.dav_walks.specs.Follows.{here}
 use Rattle.dav_walks.specs.Pouring.{Writes}
 use Rattle.dav_walks.proofs.calls.ListingsLead.{listed_on}
-use Rattle.dav_cache.specs.Memory.{MemoryState}
+use Rattle.dav_memory.specs.Memory.{MemoryState}
 use Rattle.dav_local.specs.declared.entry.LocalFsDirEntry.{LocalFsDirEntry}
 use Rattle.dav_local.specs.declared.file.LocalFsFile.{LocalFsFile}
 use Rattle.dav_local.specs.declared.gathering.LocalFsReadDir.{LocalFsReadDir}

@@ -26,7 +26,7 @@ use Rattle.dav_core.proofs.UnchangedLemmas.{put_same, same_besides, same_besides
 use Rattle.dav_store.specs.Files.{Spoiled}
 use Rattle.dav_store.specs.View.{Listings, View}
 use Rattle.dav_walks.specs.Pouring.{Writes, WritesFile}
-use Rattle.dav_cache.specs.Memory.{MemoryState}
+use Rattle.dav_memory.specs.Memory.{MemoryState}
 use Rattle.dav_model.specs.Finding.{is_forbidden, or_walk}
 use Rattle.dav_local.specs.declared.entry.LocalFsDirEntry.{LocalFsDirEntry}
 use Rattle.dav_local.specs.declared.file.LocalFsFile.{LocalFsFile}

@@ -30,7 +30,7 @@ use Rattle.dav_core.specs.Writing.{can_write}
 use Rattle.dav_core.proofs.UnchangedLemmas.{same_besides_then}
 use Rattle.dav_store.specs.Files.{Spoiled}
 use Rattle.dav_store.specs.View.{Closes, Listings, View}
-use Rattle.dav_cache.specs.Memory.{MemoryState}
+use Rattle.dav_memory.specs.Memory.{MemoryState}
 use Rattle.dav_model.specs.declared.outcome.Outcome.{Outcome}
 use Rattle.dav_model.specs.declared.settings.Settings.{Settings}
 use Rattle.dav_model.specs.Conditions.{Fields, condition, strong}

@@ -19,7 +19,7 @@ use Rattle.dav_core.specs.World.{IsWorld, SameBesidesOpens, World}
 use Rattle.dav_core.proofs.Elements.{In, filter_in, in_filter}
 use Rattle.dav_core.proofs.Rows.{row_at_in}
 use Rattle.dav_store.specs.View.{Listings, View}
-use Rattle.dav_cache.specs.Memory.{MemoryState}
+use Rattle.dav_memory.specs.Memory.{MemoryState}
 use Rattle.dav_model.specs.Finding.{is_clear}
 use Rattle.dav_model.specs.Unset.{nothing_set}
 use Rattle.dav_model.specs.Walks.{dir_first, in_order, put_by}

@@ -35,10 +35,10 @@ ghost use Rattle.dav_upload_laws.specs.Reading.{IsRead, IsShownAt, handle_of};
 ghost use Rattle.dav_upload_laws.specs.Swept.{Swept};
 ghost use Rattle.dav_upload_laws.specs.Written.{finds_as_written};
 
-use dav_cache::Remember;
 use dav_core::{DavError, Disk};
 use dav_local::{LocalFs, LocalFsFile};
 use dav_local_laws::calls_are_local;
+use dav_memory::Remember;
 use dav_store::{DavFile, DavFileSystem};
 
 /// A local store is one over which uploads are whole, where names don't fold and the disk's root is served. The reading

@@ -17,12 +17,12 @@ ghost use Rattle.dav_local.specs.LocalFiles.{local_file};
 
 use anyhow::{Result, bail};
 use dav_body::{Body, BodyFault, BodyType, collect};
-use dav_cache::Forget;
 use dav_config::{Answered, DavConfig, DavHandler};
 use dav_disk::MemDisk;
 use dav_get::GetBody;
 use dav_io::{Moment, Octets};
 use dav_local::{LocalFs, LocalFsFile};
+use dav_memory::Forget;
 use dav_store::{DavFile, DavFileSystem, OneBody};
 use http::{Method, Request, Uri};
 use std::alloc::Global;

@@ -9,11 +9,11 @@ ghost use Rattle.dav_readcache.specs.Cached.{cached_file};
 
 use crate::{gathered, request_of};
 use anyhow::{Result, bail};
-use dav_cache::Forget;
 use dav_config::{Answered, DavConfig, DavHandler};
 use dav_disk::MemDisk;
 use dav_io::Moment;
 use dav_local::{LocalFs, LocalFsFile};
+use dav_memory::Forget;
 use dav_readcache::{CachedFile, ReadCache};
 use dav_store::{GuardedFileSystem, OneBody};
 use http::Request;

@@ -1,10 +1,10 @@
 //! Settings of a row, as words `NAME=VALUE`.
-use dav_cache::Forget;
 use dav_config::{DavConfig, Settings};
 use dav_core::{DavMethod, DavMethodSet, DavPath, dav_method, is_plain};
 use dav_disk::MemDisk;
 use dav_io::{NoMemory, Text};
 use dav_local::LocalFs;
+use dav_memory::Forget;
 use dav_rows::Line;
 use http::Method;
 use std::alloc::Global;

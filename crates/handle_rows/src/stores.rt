@@ -4,10 +4,10 @@
 //! word `store` among those of a configuration that is given gives it a disk of its own, with the file `/f.txt` (number
 //! 36, 3 s, `abcde`), whose calls of the numbers in words `!CALL` fail.
 use crate::settings::{Config, Store, config_of};
-use dav_cache::Forget;
 use dav_core::{FileTime, FsPath, is_plain};
 use dav_disk::MemDisk;
 use dav_local::LocalFs;
+use dav_memory::Forget;
 use dav_rows::Line;
 use std::alloc::Global;
 

@@ -1,9 +1,9 @@
 //! Calls of local stores over a disk of the machine, and whether what they made is for its owner alone.
 use anyhow::{Result, bail};
-use dav_cache::{Forget, Remember};
 use dav_core::{DavPath, Disk, FsError, OpenOptions};
 use dav_host::HostDisk;
 use dav_local::LocalFs;
+use dav_memory::{Forget, Remember};
 use dav_store::{DavFile, DavFileSystem};
 use std::alloc::Global;
 use std::fs;

@@ -1,9 +1,9 @@
 //! The stores of rows.
 ghost use Rattle.std.specs.Prelude.{◌<◌, ◌≤◌, IfSome};
 
-use dav_cache::Forget;
 use dav_core::Disk;
 use dav_local::LocalFs;
+use dav_memory::Forget;
 use dav_readcache::ReadCache;
 use dav_rows::word;
 use dav_scenes::number;

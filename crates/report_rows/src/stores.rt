@@ -1,10 +1,10 @@
 //! The store to which requests are put.
 
 use crate::disks::path_of;
-use dav_cache::Forget;
 use dav_core::FsPath;
 use dav_disk::MemDisk;
 use dav_local::LocalFs;
+use dav_memory::Forget;
 use dav_rows::word;
 use std::alloc::Global;
 

@@ -11,8 +11,8 @@ use Rattle.dav_model.specs.declared.step.Step.{Step}
 use Rattle.dav_model.specs.Folds.{Name, dir_time, has_name}
 use Rattle.dav_model.specs.Rules.{Rules, SameDots}
 use Rattle.dav_model.specs.Still.{Fits, is_quiet}
-use Rattle.dav_cache.specs.Trees.{same_path, same_time}
-use Rattle.dav_cache.proofs.Keys.{path_decides, time_decides}
+use Rattle.dav_memory.specs.Trees.{same_path, same_time}
+use Rattle.dav_memory.proofs.Keys.{path_decides, time_decides}
 use Rattle.dav_shared.specs.Books.{has_in, one_book, seconds}
 use Rattle.dav_sessions.specs.Sessions.{known_by_page}
 use Rattle.session_rows.specs.Told.{AreQuiet, CanBeTold, IsQuiet, IsToldOf, TellsTree, told_tree}
@@ -22,7 +22,7 @@ use Rattle.session_rows.specs.Told.{AreQuiet, CanBeTold, IsQuiet, IsToldOf, Tell
 not_d : (time : FileTime) (name x : Name) → Rattle.dav_model.specs.Folds.is_dot x ≡ true → has_in [] x ≡ has_name (told_tree time name) [] x
 not_d time name [] dot = cc
 not_d time name (a ∷ []) dot = cc
-not_d time name (a ∷ b ∷ rest) dot = rw (and_right (Rattle.dav_cache.specs.Trees.is_dot (a ∷ b ∷ rest)) false refl, and_right (a == 100) false refl) refl
+not_d time name (a ∷ b ∷ rest) dot = rw (and_right (Rattle.dav_memory.specs.Trees.is_dot (a ∷ b ∷ rest)) false refl, and_right (a == 100) false refl) refl
 
 only_a : (time : FileTime) (x : Name) → Rattle.dav_model.specs.Folds.is_dot x ≡ true
     → has_in (codes "._a" ∷ []) x ≡ has_name (told_tree time (codes "._a")) (codes "d" ∷ []) x

@@ -20,11 +20,11 @@ ghost use Rattle.std.specs.Prelude.{◌≡◌};
 ghost use Rattle.dav_store.specs.Listings.{HasLister};
 
 use bytes::Bytes;
-use dav_cache::Forget;
 use dav_core::{DavMetaData, DavPath, FileTime, FsError, Kind, Member, OpenOptions};
 use dav_disk::MemDisk;
 use dav_io::{Moment, Text};
 use dav_local::{EntryMeta, LocalFs, LocalFsDirEntry, LocalFsMetaData};
+use dav_memory::Forget;
 use dav_rows::{Line, word};
 use dav_scenes::{bytes_of, number, set_disk, tell_bytes, tell_time};
 use dav_store::{

@@ -1,6 +1,6 @@
 use Rattle.std.proofs.Common.{◌≡◌, None, drop}
 use Rattle.std.specs.Option.{option_copied}
-use Rattle.dav_cache.specs.Entries.{is_rising}
+use Rattle.dav_memory.specs.Entries.{is_rising}
 use Rattle.dav_cache.proofs.du_cache.are_rising.Given as goal
 
 -- what is left of the names tells what all tell

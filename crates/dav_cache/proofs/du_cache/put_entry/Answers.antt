@@ -1,6 +1,6 @@
 use Rattle.std.proofs.Common.{ap, sym, ◌∙◌}
 use Rattle.lru.specs.LruCache.{lru_cache}
-use Rattle.dav_cache.specs.Entries.{Dots}
+use Rattle.dav_memory.specs.Entries.{Dots}
 use Rattle.dav_cache.proofs.DotLists.{dot_put, on_ok}
 use Rattle.dav_cache.proofs.du_cache.put_entry.Goals as goal
 

@@ -1,5 +1,5 @@
 use Rattle.std.proofs.Common.{arith}
-use Rattle.dav_cache.specs.Entries.{listed_by}
+use Rattle.dav_memory.specs.Entries.{listed_by}
 use Rattle.dav_cache.proofs.DotLists.{puts-more}
 use Rattle.dav_cache.proofs.du_cache.put_listing.Goals as goal
 

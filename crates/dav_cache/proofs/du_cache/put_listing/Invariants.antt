@@ -1,6 +1,6 @@
 use Rattle.std.proofs.Common.{◌≡◌, ◌+◌, ◌≤◌}
 use Rattle.lru.specs.LruCache.{lru_cache}
-use Rattle.dav_cache.specs.Entries.{some_put, listed_by}
+use Rattle.dav_memory.specs.Entries.{some_put, listed_by}
 use Rattle.dav_cache.proofs.du_cache.put_listing.Given as goal
 
 abbrev pub invariant-loop-name : goal.invariant-loop-name

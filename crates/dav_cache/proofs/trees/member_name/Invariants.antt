@@ -1,5 +1,5 @@
 use Rattle.std.proofs.Common.{◌≡◌, ◌≤◌, drop, length}
-use Rattle.dav_cache.specs.Trees as trees
+use Rattle.dav_memory.specs.Trees as trees
 use Rattle.dav_cache.proofs.trees.member_name.Given as goal
 
 -- what is left of both tells the name

@@ -1,5 +1,5 @@
 use Rattle.std.proofs.Common.{◌≡◌, ◌≤◌, drop, length}
-use Rattle.dav_cache.specs.Trees as trees
+use Rattle.dav_memory.specs.Trees as trees
 use Rattle.dav_cache.proofs.trees.next_name.Given as goal
 
 abbrev pub invariant-loop-left : goal.invariant-loop-left

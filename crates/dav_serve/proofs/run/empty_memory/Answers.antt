@@ -1,5 +1,5 @@
 use Rattle.std.proofs.Common.{IfOk, Err, Ok, Result, ap}
-use Rattle.dav_cache.specs.Memory.{memory_of}
+use Rattle.dav_memory.specs.Memory.{memory_of}
 use Rattle.dav_local.specs.Shown.{knowledge_of}
 use Rattle.dav_serve.proofs.run.empty_memory.Goals as goal
 

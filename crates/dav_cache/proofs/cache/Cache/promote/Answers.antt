@@ -1,5 +1,5 @@
 use Rattle.std.proofs.Common.{ap, refl}
-use Rattle.dav_cache.specs.Entries.{Paths, PathCache}
+use Rattle.dav_memory.specs.Entries.{Paths, PathCache}
 use Rattle.dav_cache.proofs.PathLists.{path_promoted}
 use Rattle.dav_cache.proofs.Probes.{folded-promoted}
 use Rattle.dav_cache.proofs.cache.Cache.promote.Goals as goal

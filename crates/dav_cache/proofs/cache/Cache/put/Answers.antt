@@ -1,5 +1,5 @@
 use Rattle.std.proofs.Common.{ap}
-use Rattle.dav_cache.specs.Entries.{Paths, PathCache}
+use Rattle.dav_memory.specs.Entries.{Paths, PathCache}
 use Rattle.dav_cache.proofs.PathLists.{path_put, folded-put}
 use Rattle.dav_cache.proofs.cache.Cache.put.Goals as goal
 

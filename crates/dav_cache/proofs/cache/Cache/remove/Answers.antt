@@ -1,8 +1,8 @@
 use Rattle.std.proofs.Common.{ap}
-use Rattle.dav_cache.specs.Entries.{Paths, PathCache}
+use Rattle.dav_memory.specs.Entries.{Paths, PathCache}
 use Rattle.dav_cache.proofs.PathLists.{path_removed}
 use Rattle.dav_cache.proofs.Paths.{folded-without}
-use Rattle.dav_cache.specs.Trees.{same_path}
+use Rattle.dav_memory.specs.Trees.{same_path}
 use Rattle.dav_cache.proofs.cache.Cache.remove.Goals as goal
 
 pub invariant_of-self : goal.invariant_of-self

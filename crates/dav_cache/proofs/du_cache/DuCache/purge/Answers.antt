@@ -1,5 +1,5 @@
 use Rattle.std.proofs.Common.{◌≡◌, sym, ◌∙◌}
-use Rattle.dav_cache.specs.Entries.{purged, is_old_dot}
+use Rattle.dav_memory.specs.Entries.{purged, is_old_dot}
 use Rattle.dav_cache.proofs.Lru.{purged-drop_last, purged-done}
 use Rattle.dav_cache.proofs.du_cache.DuCache.purge.Goals as goal
 

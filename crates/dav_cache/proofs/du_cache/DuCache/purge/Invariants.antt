@@ -1,5 +1,5 @@
 use Rattle.std.proofs.Common.{◌≡◌, length}
-use Rattle.dav_cache.specs.Entries.{purged, is_old_dot}
+use Rattle.dav_memory.specs.Entries.{purged, is_old_dot}
 use Rattle.dav_cache.proofs.du_cache.DuCache.purge.Given as goal
 
 abbrev pub invariant-loop-now : goal.invariant-loop-now

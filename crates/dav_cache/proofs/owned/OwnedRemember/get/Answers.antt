@@ -1,6 +1,6 @@
 use Rattle.std.proofs.Common.{refl, subst, IfOk}
-use Rattle.dav_cache.specs.Calls.{Seeing}
-use Rattle.dav_cache.specs.Memory.{OwnedState, Gets, memory_of}
+use Rattle.dav_memory.specs.Calls.{Seeing}
+use Rattle.dav_memory.specs.Memory.{OwnedState, Gets, memory_of}
 use Rattle.dav_cache.proofs.MemoryCalls.{if_both, owned_gets}
 use Rattle.dav_cache.proofs.owned.OwnedRemember.get.Goals as goal
 

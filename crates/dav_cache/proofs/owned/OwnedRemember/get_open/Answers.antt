@@ -1,6 +1,6 @@
 use Rattle.std.proofs.Common.{refl, subst, IfOk}
-use Rattle.dav_cache.specs.Calls.{Opening}
-use Rattle.dav_cache.specs.Memory.{OwnedState, GetsOpen, memory_of}
+use Rattle.dav_memory.specs.Calls.{Opening}
+use Rattle.dav_memory.specs.Memory.{OwnedState, GetsOpen, memory_of}
 use Rattle.dav_cache.proofs.MemoryCalls.{if_both, owned_gets}
 use Rattle.dav_cache.proofs.owned.OwnedRemember.get_open.Goals as goal
 

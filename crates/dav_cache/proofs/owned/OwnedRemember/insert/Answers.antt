@@ -1,5 +1,5 @@
 use Rattle.std.proofs.Common.{refl, subst, OnOk}
-use Rattle.dav_cache.specs.Memory.{OwnedState, Inserts, memory_of}
+use Rattle.dav_memory.specs.Memory.{OwnedState, Inserts, memory_of}
 use Rattle.dav_cache.proofs.MemoryCalls.{on_ok, owned_inserts}
 use Rattle.dav_cache.proofs.owned.OwnedRemember.insert.Goals as goal
 

@@ -1,5 +1,5 @@
 use Rattle.std.proofs.Common.{refl, subst, IfOk}
-use Rattle.dav_cache.specs.Memory.{OwnedState, Negates, memory_of}
+use Rattle.dav_memory.specs.Memory.{OwnedState, Negates, memory_of}
 use Rattle.dav_cache.proofs.MemoryCalls.{if_ok, owned_negates}
 use Rattle.dav_cache.proofs.owned.OwnedRemember.negative.Goals as goal
 

@@ -1,5 +1,5 @@
 use Rattle.std.proofs.Common.{subst}
-use Rattle.dav_cache.specs.Memory.{OwnedState, Purges, memory_of}
+use Rattle.dav_memory.specs.Memory.{OwnedState, Purges, memory_of}
 use Rattle.dav_cache.proofs.MemoryCalls.{owned_purges}
 use Rattle.dav_cache.proofs.owned.OwnedRemember.purge.Goals as goal
 

@@ -1,5 +1,5 @@
 use Rattle.std.proofs.Common.{refl, subst}
-use Rattle.dav_cache.specs.Memory.{OwnedState, SealsIn, memory_of}
+use Rattle.dav_memory.specs.Memory.{OwnedState, SealsIn, memory_of}
 use Rattle.dav_cache.proofs.MemoryCalls.{owned_seals}
 use Rattle.dav_cache.proofs.owned.OwnedRemember.seal.Goals as goal
 

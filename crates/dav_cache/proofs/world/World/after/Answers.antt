@@ -1,6 +1,6 @@
 use Rattle.std.proofs.Common.{◌≡◌, None, true, sym, subst}
 use Rattle.dav_cache.specs.Core.{Listing, Rises, AllRise}
-use Rattle.dav_cache.specs.Entries.{is_rising}
+use Rattle.dav_memory.specs.Entries.{is_rising}
 use Rattle.dav_cache.proofs.Rising.{rise-at}
 use Rattle.dav_cache.proofs.world.World.after.Goals as goal
 

@@ -1,6 +1,6 @@
 use Rattle.std.proofs.Common.{◌+◌, true, arith}
 use Rattle.dav_core.proofs.UnchangedLemmas.{keeps_then}
-use Rattle.dav_cache.specs.Calls.{Seeing}
+use Rattle.dav_memory.specs.Calls.{Seeing}
 use Rattle.dav_local.specs.Calls.{LooksAt, place_of}
 use Rattle.dav_local.proofs.Seen.{look_saved, look_starved, look_unknown, finds_refused, finds_unknown, look_recalled}
 use Rattle.dav_local.proofs.NearSeen.{asked_recalled, asked_starved, asked_unknown, looks_starved, missed_kept, seeks_recalled, seeks_starved, seeks_unknown, seen_kept, starved_kept}

@@ -1,6 +1,6 @@
 use Rattle.std.proofs.Common.{arith, Ok}
 use Rattle.dav_core.specs.Writing.{reading}
-use Rattle.dav_cache.specs.Calls.{Opening}
+use Rattle.dav_memory.specs.Calls.{Opening}
 use Rattle.dav_local.specs.Seeing.{OpensAt}
 use Rattle.dav_local.specs.Calls.{place_of}
 use Rattle.dav_local.proofs.Seen.{finds_unknown, open_recalled, open_saved, open_unknown, missed_counts, opened_counts, opened_recalled, opened_unknown}

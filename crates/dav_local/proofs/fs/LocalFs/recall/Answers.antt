@@ -1,7 +1,7 @@
 use Rattle.std.specs.Option.{is_some}
 use Rattle.std.proofs.Common.{refl, ap, Some, None, sym}
 use Rattle.dav_local.proofs.Recalling.{recalls_found, recalls_none, recalls_starved}
-use Rattle.dav_cache.specs.Calls.{Seeing}
+use Rattle.dav_memory.specs.Calls.{Seeing}
 use Rattle.dav_core.specs.Path.{Names}
 use Rattle.dav_local.specs.Places.{place_of}
 use Rattle.dav_local.proofs.NearFound.{missed_as}

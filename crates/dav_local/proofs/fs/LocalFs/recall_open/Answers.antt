@@ -1,7 +1,7 @@
 use Rattle.std.proofs.Common.{ap, refl}
 use Rattle.dav_local.specs.Places.{place_of}
 use Rattle.dav_local.proofs.Seen.{lacking_keeps, lacking_once, opens_nothing, opens_once, recalls_opened}
-use Rattle.dav_cache.specs.Calls.{Opening}
+use Rattle.dav_memory.specs.Calls.{Opening}
 use Rattle.dav_local.proofs.NearFound.{got_unasked}
 use Rattle.dav_local.proofs.MostSeen.{got_open, got_starved}
 use Rattle.dav_local.proofs.fs.LocalFs.recall_open.Goals as goal

@@ -1,6 +1,6 @@
 use Rattle.std.proofs.Common.{ap, refl}
 use Rattle.dav_local.proofs.Seen.{sees_once, recalls_nothing, recalls_seen}
-use Rattle.dav_cache.specs.Calls.{Seeing}
+use Rattle.dav_memory.specs.Calls.{Seeing}
 use Rattle.dav_local.specs.Places.{place_of}
 use Rattle.dav_local.proofs.NearFound.{got_unasked}
 use Rattle.dav_local.proofs.NearSeen.{asked_kept, unasked_kept}

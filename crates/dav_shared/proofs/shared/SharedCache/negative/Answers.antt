@@ -1,6 +1,6 @@
 use Rattle.std.proofs.Common.{◌∙◌, sym, subst, ap}
-use Rattle.dav_cache.specs.declared.key.DuKey.{DuKey}
-use Rattle.dav_cache.specs.Entries.{name_key}
+use Rattle.dav_memory.specs.declared.key.DuKey.{DuKey}
+use Rattle.dav_memory.specs.Entries.{name_key}
 use Rattle.dav_shared.specs.Books.{IsUntold}
 use Rattle.dav_shared.proofs.Denying.{negates_by}
 use Rattle.dav_shared.proofs.shared.SharedCache.negative.Goals as goal

@@ -1,6 +1,0 @@
-use Rattle.std.proofs.Common.{◌≡◌, take, map}
-use Rattle.dav_cache.specs.Trees.{fold_name}
-use Rattle.dav_cache.proofs.folding.fold.Given as goal
-
-abbrev pub invariant-loop-name : goal.invariant-loop-name
-invariant-loop-name l = l.folded.items ≡ map fold_name (take l.name-index l.name-items)

@@ -1,0 +1,5 @@
+pub mod Trees
+pub mod Entries
+pub mod Calls
+pub mod Memory
+pub mod Builder
