@@ -12,8 +12,8 @@ use std::alloc::Global;
 use std::sync::atomic::{AtomicU64, Ordering};
 use std::thread::yield_now;
 
-// How often a disk looks for the others before it goes on without them.
-const TURNS: u64 = 200_000;
+// How often a disk looks for the others before it goes on without them. It is about a second where nothing else runs.
+const TURNS: u64 = 1_000_000;
 
 /// At which of its calls a disk waits.
 #[derive(Clone, Copy, PartialEq, Eq)]
@@ -42,7 +42,8 @@ impl Meeting {
         }
     }
 
-    // Counts a disk, and waits for the others. It answers whether all came.
+    // Counts a disk, and waits for the others. It answers whether all came. Where they didn't, those that come later
+    // don't wait.
     fn come(&self) -> bool {
         self.here.fetch_add(1, Ordering::SeqCst);
         for _ in 0..TURNS {
@@ -51,6 +52,7 @@ impl Meeting {
             }
             yield_now();
         }
+        self.here.fetch_add(self.all, Ordering::SeqCst);
         false
     }
 }
