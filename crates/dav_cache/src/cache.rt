@@ -8,9 +8,9 @@ ghost use Rattle.dav_memory.specs.Entries.{PathEntry};
 ghost use Rattle.dav_memory.specs.Calls.{LacksMemory, Looks, LooksBy, Opening, found_by, is_starved as the_is_starved, probed};
 
 use crate::valid::no_key_stands_twice;
-use crate::{FoldedPath, fold};
 use dav_core::{Disk, DiskError, FsPath, Handle, Meta, OpenOptions};
 use dav_io::{Moment, NoMemory};
+use dav_memory::{FoldedPath, PathEntry, fold};
 use lru::LruCache;
 use std::alloc::Global;
 use std::marker::Model;
