@@ -13,6 +13,21 @@ use std::process::ExitCode;
 
 const USAGE: &str = "usage: davput ROOT PATH, or davput ROOT --sweep DIR";
 
+// What `--help` says behind the usage.
+const HELP: &str = "
+  ROOT PATH           stores what stands on standard input at PATH below the folder ROOT, whole or not at all: it goes
+                      to a hidden name beside PATH, which takes the place of PATH when all is there
+  ROOT --sweep DIR    removes what runs that were killed left under such names in the directory DIR below ROOT
+
+PATH and DIR are written as in a request's target: from a slash on, with %20 for a blank.
+
+Alone, as the only word:
+  --help              this text
+  --version           the name and its version
+
+Status: 0 done, 1 refused, 2 the words are not understood, 3 reading the input, 4 writing this text, or 5 the disk
+failed, 101 out of memory.";
+
 // How many bytes are read at once.
 const PIECE: usize = 65_536;
 
@@ -60,10 +75,9 @@ fn put(rt: &HostRuntime, root: &str, task: &Task) -> Result<Ending, NoMemory> {
     ))
 }
 
-fn runs(rt: &HostRuntime) -> Result<Ending, Ending> {
-    let words = words_of(rt)?;
-    let task = task_said(rt.alloc(), &words)?;
-    match put(rt, root_of(&words), &task) {
+fn runs(rt: &HostRuntime, words: &[String]) -> Result<Ending, Ending> {
+    let task = task_said(rt.alloc(), words)?;
+    match put(rt, root_of(words), &task) {
         Ok(ending) => Ok(ending),
         Err(_) => Err(Ending::NoMemory),
     }
@@ -84,10 +98,48 @@ fn say(rt: &HostRuntime, ending: &Ending) {
     };
 }
 
-fn main(rt: HostRuntime) -> ExitCode {
-    let ending = match runs(&rt) {
-        Ok(ending) | Err(ending) => ending,
-    };
-    say(&rt, &ending);
+fn ends(rt: &HostRuntime, ending: &Ending) -> ExitCode {
+    say(rt, ending);
     ExitCode::from(ending.status())
+}
+
+// Whether the words are this one alone.
+fn is_word(words: &[String], word: &str) -> bool {
+    match words {
+        [only] => only.as_str() == word,
+        _ => false,
+    }
+}
+
+fn tell(rt: &HostRuntime, text: &str) -> ExitCode {
+    match println!(rt; "{text}") {
+        Ok(()) => ExitCode::from(0),
+        Err(_) => {
+            let _ = eprintln!(rt; "davput: writing the output failed");
+            ExitCode::from(4)
+        }
+    }
+}
+
+fn tell_help(rt: &HostRuntime) -> ExitCode {
+    match format!(in rt.alloc(); "{USAGE}\n{HELP}") {
+        Ok(text) => tell(rt, text.as_str()),
+        Err(_) => ends(rt, &Ending::NoMemory),
+    }
+}
+
+fn main(rt: HostRuntime) -> ExitCode {
+    let words = match words_of(&rt) {
+        Ok(words) => words,
+        Err(ending) => return ends(&rt, &ending),
+    };
+    if is_word(&words, "--help") {
+        return tell_help(&rt);
+    }
+    if is_word(&words, "--version") {
+        return tell(&rt, "davput 0.1.0");
+    }
+    match runs(&rt, &words) {
+        Ok(ending) | Err(ending) => ends(&rt, &ending),
+    }
 }
