@@ -1,8 +1,9 @@
 #!/usr/bin/env python3
 """Prints where the definitions of right answers stand: each file of `crates/*/specs` with its first comment, by crate.
 
-    python3 checks/definitions.py [CRATE..]     as a page: all crates, or these
-    python3 checks/definitions.py NAME..        where these names are defined: file, line, and the comment above
+    python3 checks/definitions.py [CRATE..]           as a page: all crates, or these
+    python3 checks/definitions.py --all [CRATE..]     the files of code and of proofs as well, those that have a first comment
+    python3 checks/definitions.py NAME..              where these names are defined: file, line, and the comment above
 
 A name is that of a definition, of a field of a record, of a case of data, or of a public function, a law among them. One that is
 defined nowhere ends it with 1.
@@ -38,10 +39,10 @@ def first_comment(path):
     """The first paragraph of the comment at the head of a file."""
     said = []
     for line in lines_of(path):
-        line = line.rstrip()
-        if not line.startswith("-- "):
+        begun = re.match(r"(?:--|//[/!]?) (.*)", line)
+        if not begun:
             break
-        said.append(line[3:].strip())
+        said.append(begun[1].strip())
     return " ".join(said)
 
 
@@ -89,16 +90,24 @@ def print_places(name):
     return count > 0
 
 
-def print_crates(crates):
+def print_files(crate, folder, paths):
+    for path in paths:
+        name = os.path.relpath(path, os.path.join(CRATES, crate, folder))
+        print(f"- `{name}`: {first_comment(path) or '(no comment)'}")
+
+
+def print_crates(crates, with_all):
     print("# Where the definitions stand\n")
-    print("Made by `checks/definitions.py`, from the first comment of each file of `crates/*/specs`.")
+    print("Made by `checks/definitions.py`, from the first comment of each file.")
     for crate in crates:
-        files = files_of(crate)
-        if files:
+        if files_of(crate) or with_all:
             print(f"\n## {crate}\n")
-        for path in files:
-            name = os.path.relpath(path, os.path.join(CRATES, crate, "specs"))
-            print(f"- `{name}`: {first_comment(path) or '(no comment)'}")
+        print_files(crate, "specs", files_of(crate))
+        for folder, ending in (("src", ".rt"), ("proofs", ".antt")) if with_all else ():
+            paths = [path for path in files_below(crate, folder, ending) if first_comment(path)]
+            if paths:
+                print(f"\n### {folder}\n")
+            print_files(crate, folder, paths)
 
 
 def main():
@@ -106,13 +115,11 @@ def main():
         print(__doc__)
         return 0
     all_of = sorted(os.listdir(CRATES))
-    if not sys.argv[1:]:
-        print_crates(all_of)
-        return 0
-    crates = [word for word in sys.argv[1:] if word in all_of]
-    names = [word for word in sys.argv[1:] if word not in all_of]
-    if crates:
-        print_crates(crates)
+    words = [word for word in sys.argv[1:] if word != "--all"]
+    crates = [word for word in words if word in all_of]
+    names = [word for word in words if word not in all_of]
+    if crates or not words:
+        print_crates(crates or all_of, "--all" in sys.argv[1:])
     return 0 if all([print_places(name) for name in names]) else 1
 
 
