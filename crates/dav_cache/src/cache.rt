@@ -4,7 +4,7 @@ ghost use Rattle.std.specs.Map.{lookup};
 ghost use Rattle.lru.specs.LruCache.{last_entry};
 ghost use Rattle.dav_memory.specs.Trees.{same_path, fold_path};
 ghost use Rattle.dav_memory.specs.Entries as entries;
-ghost use Rattle.dav_memory.specs.Entries.{PathEntry};
+ghost use Rattle.dav_memory.specs.declared.entry.PathEntry.{PathEntry};
 ghost use Rattle.dav_memory.specs.Calls.{LacksMemory, Looks, LooksBy, Opening, found_by, is_starved as the_is_starved, probed};
 
 use crate::valid::no_key_stands_twice;

@@ -11,8 +11,8 @@ use Rattle.dav_core.specs.DavPath.{final_slash}
 use Rattle.dav_core.specs.Listing.{name_of, stands_in}
 use Rattle.dav_core.specs.Members.{member_of, members}
 use Rattle.dav_core.specs.Path.{Names, same_names}
-use Rattle.dav_core.specs.Tree.{has_dir, is_apart, is_dir, is_free, is_placed}
-use Rattle.dav_core.specs.World.{IsWorld, World}
+use Rattle.dav_core.specs.Tree.{has_dir, is_apart, is_dir, is_free, is_placed, is_tree}
+use Rattle.dav_core.specs.World.{World}
 use Rattle.dav_disk.proofs.Trees.{not_both}
 use Rattle.dav_page.specs.Listed.{place_of}
 use Rattle.dav_core.proofs.Paths.{names_equal}
@@ -88,9 +88,9 @@ apart_in w dir (r ∷ rows) e = by_row (stands_in dir r) refl (apart_in w dir ro
     by_row true e later = (rows_apart w dir r rows parts.0 e, later)
     by_row false e later = later
 
-pub members_apart : (w : World) (dir : Names) → IsWorld w → Apart (members w dir)
+pub members_apart : (w : World) (dir : Names) → is_tree w.tree ≡ true → Apart (members w dir)
 members_apart w dir is =
-    let t = and_parts (has_dir w.tree []) (list_all (is_placed w.tree) w.tree && is_apart w.tree) is.tree in
+    let t = and_parts (has_dir w.tree []) (list_all (is_placed w.tree) w.tree && is_apart w.tree) is in
     apart_in w dir w.tree (and_parts (list_all (is_placed w.tree) w.tree) (is_apart w.tree) t.1).1
 
 -- ---- a member by its place

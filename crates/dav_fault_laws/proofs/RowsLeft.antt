@@ -13,7 +13,9 @@ use Rattle.std.specs.Str.{bytes_eq}
 use Rattle.dav_core.specs.declared.member.Member.{Member}
 use Rattle.dav_core.specs.DavPath.{WebPath}
 use Rattle.dav_core.specs.Members.{members}
-use Rattle.dav_core.specs.World.{IsWorld, World}
+use Rattle.dav_core.specs.Path.{Names}
+use Rattle.dav_core.specs.Tree.{is_tree}
+use Rattle.dav_core.specs.World.{World}
 use Rattle.dav_model.specs.Indexes.{AreRowsOfSome}
 use Rattle.dav_page.specs.Listed.{AreRows, IsRowOf, is_visible, place_of}
 use Rattle.dav_page.specs.declared.row.PageRow.{PageRow}
@@ -174,19 +176,19 @@ rows_part dir (m ∷ ms) (n ∷ ns) (r ∷ rs) (s ∷ ss) p q (inl (same, part))
     inl (one_row dir n r s (subst (λ x. IsRowOf dir x r) same p.0) q.0, rows_part dir ms ns rs ss p.1 q.1 part)
 rows_part dir (m ∷ ms) (n ∷ ns) (r ∷ rs) (s ∷ ss) p q (inr part) = inr (rows_part dir (m ∷ ms) ns (r ∷ rs) ss p q.1 part)
 
-pub rows_left : (w : World) (dir : WebPath) (some whole : List PageRow) → IsWorld w → AreRowsOfSome dir (members w dir.names) some → AreRows dir (members w dir.names) whole
+pub rows_left : (w : World) (at : Names) (dir : WebPath) (some whole : List PageRow) → is_tree w.tree ≡ true → AreRowsOfSome dir (members w at) some → AreRows dir (members w at) whole
     → IsPart some whole
-rows_left w dir some whole is left rows = rows_part dir left.shown.listed rows.listed some whole left.shown.shown rows.shown
+rows_left w at dir some whole is left rows = rows_part dir left.shown.listed rows.listed some whole left.shown.shown rows.shown
     (part_of all left.shown.listed rows.listed
     (moved_all (IsFound all) (filter is_visible left.some) left.shown.listed left.shown.each_once (filter_all (IsFound all) is_visible left.some some_found))
     (moved_all (IsFound all) (filter is_visible all) rows.listed rows.each_once (filter_all (IsFound all) is_visible all each))
     (ascends left.shown.listed left.shown.in_order) (ascends rows.listed rows.in_order) fewer)
   where
     all : List Member
-    all = members w dir.names
+    all = members w at
 
     each : AllByRecursion (IsFound all) all
-    each = all_found all (members_apart w dir.names is)
+    each = all_found all (members_apart w at is)
 
     some_found : AllByRecursion (IsFound all) left.some
     some_found = front_all (IsFound all) left.some left.missing (moved_all (IsFound all) all (left.some ++ left.missing) left.parts each)

@@ -4,4 +4,5 @@ mod Ended
 mod TokensTried
 mod Performed
 mod Failing
+mod Numbers
 mod WordsSaid

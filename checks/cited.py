@@ -1,0 +1,86 @@
+#!/usr/bin/env python3
+"""Looks whether each name that the documents cite stands somewhere in the repository.
+
+    checks/cited.py      prints each name that nothing bears, with its place; ends with 1 if there is one, and else with 0
+
+Looked at is each text between backticks in README.md and in the pages of docs/ and bench/ that is one name, or several joined by
+`::` or a dot. It has to be a path or the name of a file, or each part of it a word of a source, a definition or a script. Words of
+other programs stand in `OF_OTHERS`, and one of these that no page cites any more is told as well.
+"""
+import os
+import re
+import subprocess
+import sys
+
+ROOT = os.path.dirname(os.path.dirname(os.path.abspath(__file__)))
+SELF = "checks/cited.py"
+
+# Words of other programs, of the machine and of the Rust crates, which nothing here bears.
+OF_OTHERS = set("""
+""".split())
+
+PAGE = re.compile(r"README\.md|(?:docs|bench)/.*\.md")
+CITED = re.compile(r"`([^`\n]+)`")
+WORD = re.compile(r"[A-Za-z_][A-Za-z0-9_]*")
+NAME = re.compile(r"[A-Za-z_][A-Za-z0-9_]*(?:(?:::|\.)[A-Za-z_][A-Za-z0-9_]*)*")
+
+
+def tracked_files():
+    """The files of the repository, those that aren't committed yet among them."""
+    listed = ["git", "-C", ROOT, "ls-files", "--cached", "--others", "--exclude-standard"]
+    paths = subprocess.run(listed, check=True, capture_output=True, encoding="utf-8").stdout.split("\n")
+    return [path for path in paths if path and os.path.isfile(os.path.join(ROOT, path))]
+
+
+def text_of(path):
+    with open(os.path.join(ROOT, path), encoding="utf-8", errors="replace") as it:
+        return it.read()
+
+
+def borne_by(paths):
+    """All words and all names of files that a page may cite."""
+    borne = set()
+    for path in paths:
+        borne.add(path)
+        for part in path.split("/"):
+            borne |= {part, os.path.splitext(part)[0]}
+        if path != SELF and not PAGE.fullmatch(path):
+            borne |= set(WORD.findall(text_of(path)))
+    return borne
+
+
+def cited_in(page):
+    """Each name that a page cites, with the number of its line."""
+    for number, line in enumerate(text_of(page).split("\n"), 1):
+        for text in CITED.findall(line):
+            name = text.strip().removesuffix("()")
+            if NAME.fullmatch(name):
+                yield number, name
+
+
+def lost_parts(name, borne):
+    if name in borne:
+        return []
+    return [part for part in re.split(r"::|\.", name) if part not in borne]
+
+
+def main():
+    paths = tracked_files()
+    borne = borne_by(paths)
+    count, met = 0, set()
+    for page in filter(PAGE.fullmatch, paths):
+        for number, name in cited_in(page):
+            lost = lost_parts(name, borne)
+            met |= set(lost)
+            for part in lost:
+                if part not in OF_OTHERS:
+                    count += 1
+                    print(f"{page}:{number}: {name}: nothing bears {part}")
+    for word in sorted(OF_OTHERS - met):
+        count += 1
+        print(f"{SELF}: {word}: no page cites it, or something bears it")
+    return 1 if count else 0
+
+
+if __name__ == "__main__":
+    sys.exit(main())
