@@ -5,6 +5,7 @@ pub mod Stepping
 pub mod BodyRead
 pub mod Children
 pub mod Ways
+pub mod Naming
 pub mod PollBytes
 pub mod PageFound
 pub mod Soundness

@@ -13,3 +13,4 @@ pub mod Uses
 pub mod Taking
 pub mod Gathering
 pub mod Ready
+pub mod Naming

@@ -1,6 +1,7 @@
 //! A tree is fetched: its pages first, then its files.
 ghost use Rattle.std.specs.Prelude.{◌≡◌, ◌+◌, ◌<◌, ◌≤◌, [], drop, length, vec_capacity, IfOk};
 ghost use Rattle.std.specs.List.{AllByRecursion};
+ghost use Rattle.dav_core.specs.Disk.{DiskState};
 ghost use Rattle.dav_fetch.specs.Copy.{IsCopy, IsKept};
 ghost use Rattle.dav_fetch.specs.Fetching.{CountsFetch, Fetched, IsOrdered, is_peer_failure};
 ghost use Rattle.dav_fetch.specs.Keeping.{AreAscending, AreInOrder};
@@ -82,6 +83,7 @@ fn gather<P: Peer>(
     ensures few { (P.calls peer.new).replies + made ≤ (P.calls peer.old).replies + most }
     ensures failures { CountsFailure (is_peer_failure result.ended) (P.calls peer.old) (P.calls peer.new) }
     ensures loan { P.loan peer.new ≡ P.loan peer.old }
+    ensures since { (s : DiskState) → P.since peer.old s → P.since peer.new s }
 {
     old.reverse();
     let mut made = made;
@@ -128,6 +130,7 @@ pub fn fetch<P: Peer>(
     ensures calls { CountsFetch (P.calls peer.old) most result (P.calls peer.new) }
     ensures copy { IsCopy copy.new }
     ensures loan { P.loan peer.new ≡ P.loan peer.old }
+    ensures since { (s : DiskState) → P.since peer.old s → P.since peer.new s }
 {
     let walked = walk(alloc, peer, most)?;
     let Ok(plan) = planned(alloc, walked) else {

@@ -1,5 +1,6 @@
 ghost use Rattle.std.specs.Prelude.{◌≡◌, ◌+◌, ◌<◌, ◌≤◌, [], ◌∷◌, ℕ, List, IfOk, IfErr, IfSome, Ok, None, length};
 ghost use Rattle.std.specs.List.{AllZip};
+ghost use Rattle.dav_core.specs.Disk.{DiskState};
 ghost use Rattle.dav_core.specs.DavPath.{IsPath};
 ghost use Rattle.dav_fetch.specs.declared.found.Found.{Found as It};
 ghost use Rattle.dav_fetch.specs.Asking.{dir_path};
@@ -51,6 +52,7 @@ pub(crate) fn ask_page<P: Peer>(
     ensures replies { (P.calls peer.new).replies ≤ (P.calls peer.old).replies + 1 }
     ensures failures { CountsFailure (is_peer_failure result) (P.calls peer.old) (P.calls peer.new) }
     ensures loan { P.loan peer.new ≡ P.loan peer.old }
+    ensures since { (s : DiskState) → P.since peer.old s → P.since peer.new s }
 {
     let Ok(path) = dir.try_clone() else {
         return Err(MirrorError::NoMemory);

@@ -1,4 +1,5 @@
 ghost use Rattle.std.specs.Prelude.{◌≡◌, ◌≤◌, ◌++◌, ℕ, List, min, take};
+ghost use Rattle.dav_core.specs.Disk.{DiskState};
 ghost use Rattle.dav_fetch.specs.Peer.{CountsFailure};
 ghost use Rattle.dav_fetch.specs.Reading.{ReadsTo, is_failed_end};
 
@@ -33,6 +34,7 @@ pub(crate) fn read_up_to<P: Peer>(peer: &mut P, due: u64, into: &mut Vec<u8>) ->
     ensures replies { (P.calls peer.new).replies ≤ (P.calls peer.old).replies }
     ensures failures { CountsFailure (is_failed_end result) (P.calls peer.old) (P.calls peer.new) }
     ensures loan { P.loan peer.new ≡ P.loan peer.old }
+    ensures since { (s : DiskState) → P.since peer.old s → P.since peer.new s }
 {
     let mut buffer = [0u8; 4096];
     let mut left = due;

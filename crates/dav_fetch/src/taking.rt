@@ -1,6 +1,7 @@
 // The visit of one file.
 ghost use Rattle.std.specs.Prelude.{◌≡◌, ◌+◌, ◌<◌, ◌≤◌, ◌⊎◌, Err, length};
 ghost use Rattle.std.specs.Option.{ForSome};
+ghost use Rattle.dav_core.specs.Disk.{DiskState};
 ghost use Rattle.dav_core.specs.DavPath.{IsPath};
 ghost use Rattle.dav_fetch.specs.Asking.{file_path};
 ghost use Rattle.dav_fetch.specs.Copy.{IsKept};
@@ -56,6 +57,7 @@ fn read_file<P: Peer>(peer: &mut P, path: &DavPath, file: Kept, due: u64) -> Tak
     ensures replies { (P.calls peer.new).replies ≤ (P.calls peer.old).replies }
     ensures failures { CountsFailure (is_peer_failure result.ended) (P.calls peer.old) (P.calls peer.new) }
     ensures loan { P.loan peer.new ≡ P.loan peer.old }
+    ensures since { (s : DiskState) → P.since peer.old s → P.since peer.new s }
 {
     let Kept {
         path: names,
@@ -110,6 +112,7 @@ fn ask_file<P: Peer>(alloc: Global, peer: &mut P, path: &DavPath, kept: Option<K
     ensures replies { (P.calls peer.new).replies ≤ (P.calls peer.old).replies + 1 }
     ensures failures { CountsFailure (is_peer_failure result.ended) (P.calls peer.old) (P.calls peer.new) }
     ensures loan { P.loan peer.new ≡ P.loan peer.old }
+    ensures since { (s : DiskState) → P.since peer.old s → P.since peer.new s }
 {
     let Ok(fields) = fields_for(alloc, &kept) else {
         return stopped(kept, MirrorError::NoMemory);
@@ -148,6 +151,7 @@ pub(crate) fn take_file<P: Peer>(
     ensures few { (P.calls peer.new).replies + made ≤ (P.calls peer.old).replies + most }
     ensures failures { CountsFailure (is_peer_failure result.ended) (P.calls peer.old) (P.calls peer.new) }
     ensures loan { P.loan peer.new ≡ P.loan peer.old }
+    ensures since { (s : DiskState) → P.since peer.old s → P.since peer.new s }
 {
     let Ok(path) = file_of(alloc, names) else {
         return stopped(kept, MirrorError::NoMemory);

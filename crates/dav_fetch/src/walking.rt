@@ -1,11 +1,13 @@
 ghost use Rattle.std.specs.Prelude.{true, ◌≡◌, ◌<◌, ◌≤◌, ◌+◌, ◌++◌, [], ◌∷◌, ℕ, List, IfOk, IfErr, OnOk, length, slice_index_or};
 ghost use Rattle.std.specs.List.{list_all};
+ghost use Rattle.dav_core.specs.Disk.{DiskState};
 ghost use Rattle.dav_core.specs.Path.{is_plain};
 ghost use Rattle.dav_fetch.specs.Fetching.{AtPage, Visited, WholeVisits, is_peer_failure};
 ghost use Rattle.dav_fetch.specs.Peer.{CountsFailure};
 ghost use Rattle.dav_fetch.specs.Reading.{IsOver};
+ghost use Rattle.dav_fetch.specs.Naming.{AreNamed};
 ghost use Rattle.dav_fetch.specs.Steps.{WalksTo};
-ghost use Rattle.dav_fetch.specs.Walk.{IsPageOf, Pages, Visit, dirs_on, each_once, files_on, is_among as the_is_among, way_of, with_new};
+ghost use Rattle.dav_fetch.specs.Walk.{IsPageOf, Pages, Visit, dirs_on, each_once, files_on, way_of, with_new};
 
 use crate::due::{dir_of, may_ask};
 use crate::error::MirrorError;
@@ -13,8 +15,9 @@ use crate::found::Found;
 use crate::paging::ask_page;
 use crate::peer::Peer;
 use dav_core::FsPath;
-use dav_io::NoMemory;
+use dav_io::{NoMemory, Text};
 use std::alloc::Global;
+use std::collections::BTreeSet;
 
 // What the pages of a tree name: its directories in the order of finding, the root first, and its files; and how many
 // pages were asked.
@@ -25,34 +28,36 @@ pub(crate) struct Walked {
     pub(crate) made: u64,
 }
 
-// Whether the path is among these.
-fn is_among(path: &FsPath, paths: &[FsPath]) -> bool
-    ensures { result ≡ the_is_among path.now paths.now }
+// Adds a directory that is found in another, unless its name is among those that were found there.
+fn add_new(
+    dirs: &mut Vec<FsPath>,
+    names: &mut BTreeSet<Text>,
+    dir: &FsPath,
+    name: &Text,
+) -> Result<(), NoMemory>
+    requires plain { is_plain name.now ≡ true }
+    requires named { AreNamed dir.now dirs.old.items names.old }
+    ensures dirs { OnOk result (dirs.new.items ≡ with_new (dir.now ++ name.now ∷ []) dirs.old.items) }
+    ensures named { OnOk result (AreNamed dir.now dirs.new.items names.new) }
 {
-    paths.iter().any(|other| path == other)
-}
-
-// Adds a path, unless it is among the others.
-fn add_new(paths: &mut Vec<FsPath>, path: FsPath) -> Result<(), NoMemory>
-    ensures { OnOk result (paths.new.items ≡ with_new path paths.old.items) }
-{
-    if is_among(&path, paths.as_slice()) {
-        return Ok(());
+    if names.insert(name.try_clone()?)? {
+        let path = dir.child(name.as_str())?;
+        dirs.push(path)?;
     }
-    paths.push(path)?;
     Ok(())
 }
 
-// The directories that are found in a directory, each once.
+// The directories that are found in a directory, each once. Their names are kept in order, so that none is sought among
+// all of a long page.
 fn new_dirs(alloc: Global, dir: &FsPath, found: &[Found]) -> Result<Vec<FsPath>, NoMemory>
     requires { list_all (λ one. is_plain one.name) found.now ≡ true }
     ensures { IfOk result (λ dirs. dirs.items ≡ each_once (dirs_on dir.now found.now)) }
 {
     let mut dirs = Vec::new(alloc);
+    let mut names = BTreeSet::new(alloc);
     for one in found {
         if one.is_dir {
-            let path = dir.child(one.name.as_str())?;
-            add_new(&mut dirs, path)?;
+            add_new(&mut dirs, &mut names, dir, &one.name)?;
         }
     }
     Ok(dirs)
@@ -111,6 +116,7 @@ fn ask_due<P: Peer>(
     ensures within { (P.calls peer.new).replies + made ≤ (P.calls peer.old).replies + most }
     ensures failures { CountsFailure (is_peer_failure result) (P.calls peer.old) (P.calls peer.new) }
     ensures loan { P.loan peer.new ≡ P.loan peer.old }
+    ensures since { (s : DiskState) → P.since peer.old s → P.since peer.new s }
 {
     let Ok(path) = dir_of(alloc, dir) else {
         return Err(MirrorError::NoMemory);
@@ -144,6 +150,7 @@ fn go_on<P: Peer>(
     ensures within { (P.calls peer.new).replies + walked.old.made ≤ (P.calls peer.old).replies + most }
     ensures failures { CountsFailure (is_peer_failure result) (P.calls peer.old) (P.calls peer.new) }
     ensures loan { P.loan peer.new ≡ P.loan peer.old }
+    ensures since { (s : DiskState) → P.since peer.old s → P.since peer.new s }
 {
     let found = match ask_due(alloc, peer, &walked.dirs[at], walked.made, most) {
         Ok(found) => found,
@@ -164,6 +171,7 @@ pub(crate) fn walk<P: Peer>(alloc: Global, peer: &mut P, most: u64) -> Result<Wa
     ensures within { (P.calls peer.new).replies ≤ (P.calls peer.old).replies + most }
     ensures failures { CountsFailure (is_peer_failure result) (P.calls peer.old) (P.calls peer.new) }
     ensures loan { P.loan peer.new ≡ P.loan peer.old }
+    ensures since { (s : DiskState) → P.since peer.old s → P.since peer.new s }
 {
     let mut walked = Walked {
         dirs: Vec::new(alloc),

@@ -12,8 +12,8 @@ use Rattle.dav_upload.specs.declared.error.UploadError.TheVariants.{Dav}
 use Rattle.dav_upload.specs.Shown.{IsCommitted, SameShown}
 use Rattle.dav_upload.specs.Steps.{is_fault}
 use Rattle.dav_upload.proofs.Moving.{never}
-use Rattle.dav_put.specs.declared.running.Ending.{Ending}
-use Rattle.dav_put.specs.declared.running.Ending.TheVariants.{DiskFailed, Done, NoMemory, Refused as RefusedWith}
+use Rattle.dav_put.specs.declared.ending.Ending.{Ending}
+use Rattle.dav_put.specs.declared.ending.Ending.TheVariants.{DiskFailed, Done, NoMemory, Refused as RefusedWith}
 use Rattle.dav_put.specs.declared.storing.Stop.TheVariants.{Refused}
 use Rattle.dav_put.specs.Ending.{ending_by, ending_of, is_failure}
 use Rattle.dav_put.specs.Whole.{EndedBy, EndsWhole, StoredWhole}

@@ -8,8 +8,10 @@ use Rattle.dav_core.specs.declared.dav_error.DavError.TheVariants as dav
 use Rattle.dav_core.specs.declared.error.FsError.{FsError}
 use Rattle.dav_core.specs.declared.error.FsError.TheVariants as fs
 use Rattle.dav_core.specs.declared.method.DavMethod.TheVariants.{Put}
+use Rattle.dav_core.specs.declared.time.FileTime.{FileTime}
 use Rattle.dav_core.specs.DavPath.{WebPath}
-use Rattle.dav_core.specs.Statuses.{lacks_memory, of_fs, status_of}
+use Rattle.dav_core.specs.Statuses.{lacks_memory, status_of}
+use Rattle.dav_store.specs.declared.entry.ReadDirMeta.TheVariants.{Data}
 use Rattle.dav_store.specs.View.{Closes, Listings, View}
 use Rattle.dav_model.specs.declared.outcome.Outcome.{Outcome}
 use Rattle.dav_model.specs.Conditions.{Fields}
@@ -17,7 +19,7 @@ use Rattle.dav_methods.specs.Answers.{RefusesUsually, Usual}
 use Rattle.dav_methods.specs.Lines.{Given}
 use Rattle.dav_walks.specs.Pouring.{Writes}
 use Rattle.dav_methods.specs.Putting.{MayPut}
-use Rattle.dav_methods.proofs.tables.AnswersListed.{put_listed, unread_listed}
+use Rattle.dav_methods.proofs.tables.AnswersListed.{put_listed}
 use Rattle.dav_methods.proofs.tables.LinesListed.{IsListed}
 use Rattle.dav_upload.specs.declared.error.UploadError.{UploadError}
 use Rattle.dav_upload.specs.declared.error.UploadError.TheVariants as upload
@@ -25,10 +27,11 @@ use Rattle.dav_upload.specs.declared.error.UploadError.TheVariants.{Busy, Dav}
 use Rattle.dav_upload.specs.declared.upload.Upload.{Upload}
 use Rattle.dav_upload.specs.Names.{hidden_beside, hidden_name, is_taken}
 use Rattle.dav_upload.specs.Pieces.{upload_options}
-use Rattle.dav_upload.specs.Uploading.{Aborts, AfterClose, AfterJudged, AfterJudging, Begins, BeginsAs, Commits, PieceOn, Sweeps, TakesAll, TriesToRemove, WritesPiece, hidden_files, refusal_of, refused_by, refused_opening}
-use Rattle.dav_upload.specs.Uploading.TakesAll.{done as all_taken, goes as taken_on, short as cut_short, stops as taking_stops}
-use Rattle.dav_put.specs.declared.running.Ending.{Ending}
-use Rattle.dav_put.specs.declared.running.Ending.TheVariants as ends
+use Rattle.dav_upload.specs.Uploading.{Aborts, AfterClose, AfterJudged, AfterJudging, Begins, BeginsAs, Commits, PieceOn, TriesToRemove, WritesPiece, refusal_of, refused_by, refused_opening}
+use Rattle.dav_upload.specs.Sweeping.{ChosenAs, SweepsBefore, TakesEach}
+use Rattle.dav_upload.specs.Sweeping.TakesEach.{done as all_taken, goes as taken_on, gone as passed_over, stops as taking_stops}
+use Rattle.dav_put.specs.declared.ending.Ending.{Ending}
+use Rattle.dav_put.specs.declared.ending.Ending.TheVariants as ends
 use Rattle.dav_put.specs.declared.storing.Stop.{Stop}
 use Rattle.dav_put.specs.declared.storing.Stop.TheVariants.{Refused, SourceFailed, TooMuch}
 use Rattle.dav_put.specs.Ending.{ending_by, ending_for, ending_of, ending_swept, is_failure}
@@ -239,19 +242,25 @@ module _ {S C F L E : Type 0} (view : View S C F) (lists : Listings S C L E) (wr
 
   -- ---- sweeps
 
-  takes_rose : (paths : List WebPath) (count : ℕ) (s : S) (r : Result ℕ UploadError) (t : S) → TakesAll view lists c paths count s r t → r ≡ Err Failure → Rises s t
+  takes_rose : (paths : List WebPath) (count : ℕ) (s : S) (r : Result ℕ UploadError) (t : S) → TakesEach view c paths count s r t → r ≡ Err Failure → Rises s t
   takes_rose paths count s r t (all_taken n a) is = cc
-  takes_rose paths count s r t (cut_short others n a) is = cc
   takes_rose paths count s r t (taken_on path others n a m b end call keeps rest) is = later a m b keeps.counts (takes_rose others (n + 1) m end b rest is)
-  takes_rose paths count s r t (taking_stops path others n a b e call keeps) is =
+  takes_rose paths count s r t (passed_over path others n a m b end call keeps rest) is = later a m b keeps.counts (takes_rose others n m end b rest is)
+  takes_rose paths count s r t (taking_stops path others n a b e other call keeps) is =
       let why : refused_by e ≡ Failure = cc in
       call_rose Unit a b e (few.removes_file a b path (Err e) call) why
 
-  sweeps_rose : (dir : WebPath) (s : S) (e : UploadError) (t : S) → e ≡ Failure → Sweeps view lists c dir s (Err e) t → Rises s t
-  sweeps_rose dir s e t failed (inl (f, unread, is)) =
-      let why : refused_by f ≡ Failure = (let g : e ≡ refused_by f = cc in sym g ∙ failed) in
-      listed_rose s t [] (of_fs f) (unread_listed Put [] [] view lists writes c few dir f s t unread) (ap of_fs (failed_call f why))
-  sweeps_rose dir s e t failed (inr (members, m, has, keeps, all)) = later s m t keeps.counts (takes_rose (hidden_files dir members) 0 m (Err e) t all (ap Err failed))
+  chosen_rose : (dir : WebPath) (limit : FileTime) (s : S) (e : UploadError) (t : S) → e ≡ Failure → ChosenAs view lists c dir limit s (Err e) t → Rises s t
+  chosen_rose dir limit s e t failed (inl is) = cc
+  chosen_rose dir limit s e t failed (inr (f, refused, is)) =
+      let why : refused_by f ≡ Failure = sym is ∙ failed in
+      call_rose _ s t f (few.begins s t dir Data (Err f) refused) why
+
+  sweeps_rose : (dir : WebPath) (limit : FileTime) (s : S) (e : UploadError) (t : S) → e ≡ Failure → SweepsBefore view lists c dir limit s (Err e) t → Rises s t
+  sweeps_rose dir limit s e t failed (Err f, m, chooses, (same, is)) =
+      let why : f ≡ Failure = (let g : e ≡ f = cc in sym g ∙ failed) in
+      sooner s m t (chosen_rose dir limit s f m why chooses.chosen_as) (same_count m t same)
+  sweeps_rose dir limit s e t failed (Ok paths, m, chooses, takes) = later s m t chooses.keeps.counts (takes_rose paths 0 m (Err e) t takes (ap Err failed))
 
   -- ---- a run
 
@@ -265,9 +274,9 @@ module _ {S C F L E : Type 0} (view : View S C F) (lists : Listings S C L E) (wr
       by (Err TooMuch) run e = cc
       by (Err (Refused error)) run e = stores_rose target [] first s i error t j (failed_end error e) run
 
-  pub swept_rose : (dir : WebPath) (s : S) (ending : Ending) (t : S) → ending ≡ ends.DiskFailed → SweepsAt view lists writes c dir s ending t → Rises s t
-  swept_rose dir s ending t failed (result, sweeps, is) = by result sweeps (sym is ∙ failed)
+  pub swept_rose : (dir : WebPath) (limit : FileTime) (s : S) (ending : Ending) (t : S) → ending ≡ ends.DiskFailed → SweepsAt view lists writes c dir limit s ending t → Rises s t
+  swept_rose dir limit s ending t failed (result, sweeps, is) = by result sweeps (sym is ∙ failed)
     where
-      by : (result : Result ℕ UploadError) → Sweeps view lists c dir s result t → ending_swept result ≡ ends.DiskFailed → Rises s t
+      by : (result : Result ℕ UploadError) → SweepsBefore view lists c dir limit s result t → ending_swept result ≡ ends.DiskFailed → Rises s t
       by (Ok count) run e = cc
-      by (Err error) run e = sweeps_rose dir s error t (failed_end error e) run
+      by (Err error) run e = sweeps_rose dir limit s error t (failed_end error e) run

@@ -4,4 +4,4 @@ mod Ended
 mod TokensTried
 mod Performed
 mod Failing
-mod WordsSaid
+mod Numbers

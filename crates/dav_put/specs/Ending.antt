@@ -5,8 +5,8 @@ use Rattle.dav_core.specs.declared.dav_error.DavError.TheVariants.{Fs}
 use Rattle.dav_core.specs.declared.error.FsError.TheVariants.{GeneralFailure}
 use Rattle.dav_core.specs.Statuses.{lacks_memory, status_of}
 use Rattle.dav_model.specs.declared.outcome.Outcome.{Outcome}
-use Rattle.dav_put.specs.declared.running.Ending.{Ending}
-use Rattle.dav_put.specs.declared.running.Ending.TheVariants as ends
+use Rattle.dav_put.specs.declared.ending.Ending.{Ending}
+use Rattle.dav_put.specs.declared.ending.Ending.TheVariants as ends
 use Rattle.dav_put.specs.declared.storing.Stop.{Stop}
 use Rattle.dav_put.specs.declared.storing.Stop.TheVariants.{Refused, SourceFailed, TooMuch}
 use Rattle.dav_upload.specs.declared.error.UploadError.{UploadError}
@@ -46,6 +46,7 @@ exit_of ends.Busy = 1
 exit_of ends.Words = 2
 exit_of ends.SourceFailed = 3
 exit_of ends.DiskFailed = 5
+exit_of ends.NoFolder = 8
 exit_of ends.NoMemory = 101
 
 -- how the program ends where its words say nothing

@@ -4,8 +4,8 @@ use Rattle.dav_core.specs.Path.{Names, parent_of}
 use Rattle.dav_core.specs.Tree.{is_linked}
 use Rattle.dav_core.specs.World.{World}
 use Rattle.dav_model.specs.declared.outcome.Outcome.{Outcome}
-use Rattle.dav_put.specs.declared.running.Ending.{Ending}
-use Rattle.dav_put.specs.declared.running.Ending.TheVariants.{DiskFailed, Done, NoMemory}
+use Rattle.dav_put.specs.declared.ending.Ending.{Ending}
+use Rattle.dav_put.specs.declared.ending.Ending.TheVariants.{DiskFailed, Done, NoMemory}
 use Rattle.dav_put.specs.declared.storing.Stop.{Stop}
 use Rattle.dav_put.specs.declared.storing.Stop.TheVariants.{Refused, SourceFailed, TooMuch}
 use Rattle.dav_upload.specs.declared.error.UploadError.{UploadError}

@@ -2,11 +2,12 @@
 use Rattle.std.specs.Prelude.{Bool}
 use Rattle.dav_store.specs.View.{Listings, View}
 use Rattle.dav_walks.specs.Pouring.{Writes}
-use Rattle.dav_upload.specs.EachStep.{AreWhole, LeaveNoName, LeaveOthers, SweepsAreUnseen, SweepsLeaveOthers}
-use Rattle.dav_upload.specs.Takes.{ReadsPlainly, TakesUploads}
+use Rattle.dav_upload.specs.EachStep.{AreWhole, LeaveNoName, LeaveOthers, SweepsAreUnseen, SweepsBeforeAreUnseen, SweepsBeforeLeaveOthers, SweepsLeaveOthers}
+use Rattle.dav_upload.specs.Takes.{LeadsPlainly, ReadsPlainly, TakesUploads}
 use Rattle.dav_upload.proofs.Chains.{abort_gone, aborted, began, commit_gone, committed, pieced}
 use Rattle.dav_upload.proofs.StepsLeave.{abort_left, begin_left, commit_left, piece_left}
 use Rattle.dav_upload.proofs.Sweeps.{swept}
+use Rattle.dav_upload.proofs.SweepsBefore.{before_left_hidden, before_unseen}
 use Rattle.dav_upload.proofs.SweepsLeave.{sweep_left}
 
 module _ {S C F : Type 0} (view : View S C F) (writes : Writes F) (c : C) (test : S → Bool) (takes_all : TakesUploads view writes c test) where
@@ -38,3 +39,10 @@ module _ {S C F : Type 0} (view : View S C F) (writes : Writes F) (c : C) (test 
 
     pub sweeps_leave : SweepsLeaveOthers view lists c test
     sweeps_leave = sweep_left view writes c test takes_all lists reads
+
+  module _ {L E : Type 0} (lists : Listings S C L E) (leads : LeadsPlainly view lists c test) where
+    pub sweeps_before_unseen : SweepsBeforeAreUnseen view lists c test
+    sweeps_before_unseen = before_unseen view writes c test takes_all lists leads
+
+    pub sweeps_before_leave : SweepsBeforeLeaveOthers view lists c test
+    sweeps_before_leave = before_left_hidden view writes c test takes_all lists leads

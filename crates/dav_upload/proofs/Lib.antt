@@ -9,6 +9,7 @@ pub mod Stands
 pub mod Ends
 pub mod Closing
 pub mod MembersTaken
+pub mod PathsTaken
 pub mod Links
 pub mod Chains
 pub mod Sweeps
@@ -17,4 +18,5 @@ pub mod Others
 pub mod StepsLeave
 pub mod ReadsLeave
 pub mod SweepsLeave
+pub mod SweepsBefore
 pub mod EachStep

@@ -102,16 +102,16 @@ files_clear w dir (m ∷ members) clear = by (is_hidden_file m) refl (files_clea
         rw e ((ap (λ o. is_hidden (or_empty o)) (last_pushed dir.names m.name) ∙ hides, clear m.name hides), rest)
 
 module _ {S C F : Type 0} (view : View S C F) (writes : Writes F) (c : C) (test : S → Bool) (takes_all : TakesUploads view writes c test) where
+  pub took_one : (path : WebPath) (s m : S) (v x : World) (r : Result Unit FsError) → (view.state s).told ≡ Some v → (view.state m).told ≡ Some x → test s ≡ true
+      → is_hidden_path path.names ≡ true → is_linked v.tree path.names ≡ false → view.removes_file s c path r m → Took path.names v x
+  took_one path s m v x r was now plain hides free removes =
+      hidden_took v x path.names r (takes_all.worlds s v was) hides free (told_pair (view.state s).told (view.state m).told _ v x (takes_all.removes s m path r plain removes).1 was now free)
+
+  pub removed_one : (path : WebPath) (s m : S) (v x : World) (r : Result Unit FsError) → (view.state s).told ≡ Some v → (view.state m).told ≡ Some x → test s ≡ true
+      → is_hidden_path path.names ≡ true → is_linked v.tree path.names ≡ false → view.removes_file s c path r m → Unseen v x
+  removed_one path s m v x r was now plain hides free removes = took_unseen v x path.names (took_one path s m v x r was now plain hides free removes)
+
   module _ {L E : Type 0} (lists : Listings S C L E) (reads : ReadsPlainly view lists c test) where
-    pub took_one : (path : WebPath) (s m : S) (v x : World) (r : Result Unit FsError) → (view.state s).told ≡ Some v → (view.state m).told ≡ Some x → test s ≡ true
-        → is_hidden_path path.names ≡ true → is_linked v.tree path.names ≡ false → view.removes_file s c path r m → Took path.names v x
-    took_one path s m v x r was now plain hides free removes =
-        hidden_took v x path.names r (takes_all.worlds s v was) hides free (told_pair (view.state s).told (view.state m).told _ v x (takes_all.removes s m path r plain removes).1 was now free)
-
-    pub removed_one : (path : WebPath) (s m : S) (v x : World) (r : Result Unit FsError) → (view.state s).told ≡ Some v → (view.state m).told ≡ Some x → test s ≡ true
-        → is_hidden_path path.names ≡ true → is_linked v.tree path.names ≡ false → view.removes_file s c path r m → Unseen v x
-    removed_one path s m v x r was now plain hides free removes = took_unseen v x path.names (took_one path s m v x r was now plain hides free removes)
-
     taken_all : (paths : List WebPath) (n : ℕ) (s t : S) (r : Result ℕ UploadError) (v w : World) → (view.state s).told ≡ Some v → (view.state t).told ≡ Some w → test s ≡ true → TakesAll view lists c paths n s r t
         → AreClear v paths → SameShown v w
     taken_all paths n s t r v w was now plain (done i a) clear = shown_same v w (one_told (view.state s).told v w was now)

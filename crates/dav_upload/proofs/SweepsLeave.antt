@@ -51,12 +51,12 @@ module _ {S C F : Type 0} (view : View S C F) (writes : Writes F) (c : C) (test 
     paths_leave dir paths n s t r v w was now plain (short all i a) clear within =
         (leaves_same IsOfAny (IsNotHiddenIn dir) v w (equal_worlds v w (one_told (view.state s).told v w was now)), open_same (view.state s))
     paths_leave dir paths n s t r v w was now plain (stops path rest i a b e removes keeps) ((hides, free), clear) (within, more) =
-        (took_leaves dir path.names v w hides within (took_one view writes c test takes_all lists reads path s t v w (Err e) was now plain hides free removes), keeps)
+        (took_leaves dir path.names v w hides within (took_one view writes c test takes_all path s t v w (Err e) was now plain hides free removes), keeps)
     paths_leave dir paths n s t r v w was now plain (goes path rest i a m b q removes keeps on) ((hides, free), clear) (within, more) =
         let taken = takes_all.removes s m path (Ok tt) plain removes in
         let (x, here, ends) = told_after (view.state s).told (view.state m).told _ v taken.1 was in
-        let took = took_one view writes c test takes_all lists reads path s m v x (Ok tt) was here plain hides free removes in
-        let unseen = removed_one view writes c test takes_all lists reads path s m v x (Ok tt) was here plain hides free removes in
+        let took = took_one view writes c test takes_all path s m v x (Ok tt) was here plain hides free removes in
+        let unseen = removed_one view writes c test takes_all path s m v x (Ok tt) was here plain hides free removes in
         let (then, open_then_on) = paths_leave dir rest (i + 1) m t r x w here now taken.0 on (still_clear v x rest unseen clear) more in
         (leaves_then IsOfAny (IsNotHiddenIn dir) v x w (took_leaves dir path.names v x hides within took) then, open_then (view.state s) (view.state m) (view.state t) keeps open_then_on)
 

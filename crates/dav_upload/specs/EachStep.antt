@@ -1,5 +1,6 @@
 -- What holds of each step of an upload, over a store of which `test` says that it finds paths as they are written.
 use Rattle.std.specs.Prelude.{◌≡◌, ℕ, List, Bool, true, false, None, Some, Ok, Result}
+use Rattle.dav_core.specs.declared.time.FileTime.{FileTime}
 use Rattle.dav_core.specs.DavPath.{WebPath}
 use Rattle.dav_core.specs.Tree.{is_linked, row_at}
 use Rattle.dav_core.specs.World.{World}
@@ -14,6 +15,7 @@ use Rattle.dav_upload.specs.Others.{IsNot, IsNotHiddenIn, LeavesOthers}
 use Rattle.dav_upload.specs.Shown.{SameShown}
 use Rattle.dav_upload.specs.Standing.{StandsIn}
 use Rattle.dav_upload.specs.Steps.{Began, Committed, HasClearNames, IsBeside, IsClear, Pieced}
+use Rattle.dav_upload.specs.Sweeping.{SweepsBefore}
 use Rattle.dav_upload.specs.Uploading.{Aborts, Begins, Commits, Sweeps, WritesPiece}
 
 module _ {S C F : Type 0} (view : View S C F) (writes : Writes F) (c : C) (test : S → Bool) where
@@ -90,4 +92,17 @@ module _ {S C F L E : Type 0} (view : View S C F) (lists : Listings S C L E) (c 
   SweepsLeaveOthers = (dir : WebPath) (s t : S) (v w : World) (r : Result ℕ UploadError)
       → (view.state s).told ≡ Some v → (view.state t).told ≡ Some w → test s ≡ true → HasClearNames v dir.names
       → Sweeps view lists c dir s r t
+      → LeavesOthers None (IsNotHiddenIn dir.names) (view.state s).live (view.state t).live v w
+
+  -- A sweep of what was left before a time leaves what is shown.
+  abbrev pub SweepsBeforeAreUnseen : Type 0
+  SweepsBeforeAreUnseen = (dir : WebPath) (limit : FileTime) (s t : S) (v w : World) (r : Result ℕ UploadError)
+      → (view.state s).told ≡ Some v → (view.state t).told ≡ Some w → test s ≡ true → HasClearNames v dir.names
+      → SweepsBefore view lists c dir limit s r t → SameShown v w
+
+  -- It leaves to others what they have at all but the hidden names of its directory.
+  abbrev pub SweepsBeforeLeaveOthers : Type 0
+  SweepsBeforeLeaveOthers = (dir : WebPath) (limit : FileTime) (s t : S) (v w : World) (r : Result ℕ UploadError)
+      → (view.state s).told ≡ Some v → (view.state t).told ≡ Some w → test s ≡ true → HasClearNames v dir.names
+      → SweepsBefore view lists c dir limit s r t
       → LeavesOthers None (IsNotHiddenIn dir.names) (view.state s).live (view.state t).live v w

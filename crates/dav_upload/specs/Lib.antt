@@ -5,6 +5,7 @@ pub mod Kept
 pub mod Standing
 pub mod Ends
 pub mod Uploading
+pub mod Sweeping
 pub mod Takes
 pub mod Steps
 pub mod Others

@@ -11,6 +11,7 @@ use Rattle.dav_core.specs.Info.{Info}
 use Rattle.dav_core.specs.Tree.{is_linked, row_at}
 use Rattle.dav_core.specs.World.{IsWorld, OpenFile, World, bytes_of}
 use Rattle.dav_core.specs.Writing.{appends}
+use Rattle.dav_store.specs.Leads.{LeadsOn}
 use Rattle.dav_store.specs.View.{Listings, View}
 use Rattle.dav_walks.specs.declared.child.Child.{Child}
 use Rattle.dav_walks.specs.Pouring.{Writes, WritesFile}
@@ -51,3 +52,7 @@ module _ {S C F L E : Type 0} (view : View S C F) (lists : Listings S C L E) (c 
   abbrev pub ReadsPlainly : (S → Bool) → Type 0
   ReadsPlainly test = (m n : S) (path : WebPath) (members : List Child) → test m ≡ true
       → HasMembers view lists m c path members n → test n ≡ true
+
+  -- Calls that write nothing leave how paths are found.
+  abbrev pub LeadsPlainly : (S → Bool) → Type 0
+  LeadsPlainly test = (m n : S) → test m ≡ true → LeadsOn view lists c m n → test n ≡ true

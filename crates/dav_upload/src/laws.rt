@@ -9,11 +9,11 @@ ghost use Rattle.dav_core.specs.World.{Holds, IsWorld, OpenFile, SameBesidesOpen
 ghost use Rattle.dav_core.specs.Disk.{DiskState, Live};
 ghost use Rattle.dav_core.specs.Unchanged.{Keeps, KeepsBut};
 ghost use Rattle.dav_core.specs.Tree.{row_at};
-ghost use Rattle.dav_upload.specs.EachStep.{AreWhole, LeaveNoName, LeaveOthers, SweepsAreUnseen, SweepsLeaveOthers};
+ghost use Rattle.dav_upload.specs.EachStep.{AreWhole, LeaveNoName, LeaveOthers, SweepsAreUnseen, SweepsBeforeAreUnseen, SweepsBeforeLeaveOthers, SweepsLeaveOthers};
 ghost use Rattle.dav_upload.specs.Kept.{KeepsRow};
 ghost use Rattle.dav_upload.specs.Others.{IsAny, LeavesOthers};
 ghost use Rattle.dav_upload.specs.Standing.{OthersOpen, StandsIn};
-ghost use Rattle.dav_upload.specs.Takes.{ReadsPlainly, TakesUploads};
+ghost use Rattle.dav_upload.specs.Takes.{LeadsPlainly, ReadsPlainly, TakesUploads};
 ghost use Rattle.dav_store.specs.Files.{WritesIn};
 ghost use Rattle.dav_store.specs.Standing.{Seen};
 ghost use Rattle.dav_upload.specs.Names.{hidden_beside, hidden_name, is_hidden, is_hidden_path};
@@ -86,6 +86,17 @@ pub fn uploads_leave_others<S: GuardedFileSystem<C>, C>(_fs: &S, _credentials: &
     ensures sweeps { (test : S → Bool) → TakesUploads S.view S.File.view.writes _credentials.now test
         → ReadsPlainly S.view S.listings _credentials.now test
         → SweepsLeaveOthers S.view S.listings _credentials.now test }
+{}
+
+/// Over such a store, where also calls that write nothing leave how paths are found, a sweep of what was left before a
+/// time leaves what is shown, and to others what they have at all but the hidden names of its directory.
+pub fn sweeps_before_leave_others<S: GuardedFileSystem<C>, C>(_fs: &S, _credentials: &C)
+    ensures unseen { (test : S → Bool) → TakesUploads S.view S.File.view.writes _credentials.now test
+        → LeadsPlainly S.view S.listings _credentials.now test
+        → SweepsBeforeAreUnseen S.view S.listings _credentials.now test }
+    ensures others { (test : S → Bool) → TakesUploads S.view S.File.view.writes _credentials.now test
+        → LeadsPlainly S.view S.listings _credentials.now test
+        → SweepsBeforeLeaveOthers S.view S.listings _credentials.now test }
 {}
 
 /// Over such a store nothing stands at the hidden name behind a commit and an abort that worked.

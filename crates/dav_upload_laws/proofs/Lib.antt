@@ -3,4 +3,5 @@ mod LocalReading
 mod Places
 mod Succeeds
 mod SweptExactly
+mod SweptBefore
 mod GetsLeave

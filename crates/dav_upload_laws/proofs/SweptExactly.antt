@@ -98,7 +98,7 @@ order_from before (row ∷ rows) x i = elim (put_from before row (in_order befor
 -- ---- the paths of a sweep
 
 -- a path is one of these
-abbrev IsAmong : Names → List WebPath → Type 0
+abbrev pub IsAmong : Names → List WebPath → Type 0
 IsAmong p [] = ⊥
 IsAmong p (x ∷ xs) = (p ≡ x.names) ⊎ IsAmong p xs
 
@@ -146,7 +146,7 @@ among_from dir (row ∷ rows) p i = by (is_hidden_file (child_of dir row)) refl 
 
 -- ---- what one removal takes
 
-none_took : (v w : World) (hidden p : Names) → Took hidden v w → row_at v.tree p ≡ None → row_at w.tree p ≡ None
+pub none_took : (v w : World) (hidden p : Names) → Took hidden v w → row_at v.tree p ≡ None → row_at w.tree p ≡ None
 none_took v w hidden p (inr same) none = ap (λ rows. row_at rows p) same.tree ∙ none
 none_took v w hidden p (inl (there, (t, new, becomes))) none = ap (λ rows. row_at rows p) becomes.tree ∙ (timed_at (parent_of hidden) t (without hidden v.tree) p ∙ ap (option_map (timed_row (parent_of hidden) t)) (by (same_names p hidden) refl))
   where
@@ -158,7 +158,7 @@ gone_behind : (v w : World) (hidden : Names) → Edited (takes hidden) v w → r
 gone_behind v w hidden (t, new, becomes) =
     ap (λ rows. row_at rows hidden) becomes.tree ∙ (timed_at (parent_of hidden) t (without hidden v.tree) hidden ∙ ap (option_map (timed_row (parent_of hidden) t)) (gone_at hidden v.tree))
 
-taken_gone : (v w : World) (hidden : Names) → IsWorld v → Took hidden v w → EndsAs (taking_file v.tree hidden) (Ok tt) v w → row_at w.tree hidden ≡ None
+pub taken_gone : (v w : World) (hidden : Names) → IsWorld v → Took hidden v w → EndsAs (taking_file v.tree hidden) (Ok tt) v w → row_at w.tree hidden ≡ None
 taken_gone v w hidden is took (edit, allowed, edited) = by (row_at v.tree hidden) refl
   where
     shape : (row : Row) → row_at v.tree hidden ≡ Some row → cond (is_dir row.kind) (Err IsDir) (Ok (Some (takes row.path))) ≡ Ok edit
@@ -178,7 +178,7 @@ taken_gone v w hidden is took (edit, allowed, edited) = by (row_at v.tree hidden
     by None none = none_took v w hidden hidden took none
     by (Some row) at = by_kind row at (is_dir row.kind) refl (shape row at)
 
-took_keeps : (v w : World) (hidden p : Names) → Took hidden v w → (p ≡ hidden → ⊥) → KeepsRow v w p
+pub took_keeps : (v w : World) (hidden p : Names) → Took hidden v w → (p ≡ hidden → ⊥) → KeepsRow v w p
 took_keeps v w hidden p (inl (there, edited)) ne = kept_taken v w hidden p there.alone ne edited
 took_keeps v w hidden p (inr same) ne = kept_same v w p same
 
@@ -213,7 +213,7 @@ module _ {S C : Type 0} (view : View S C LocalFsFile) (lists : Listings S C Loca
       gone_none i i [] (Ok i) v w (equal_worlds v w (one_told (view.state s).told v w was now)) (λ k is. (refl, (let e : ◌≡◌ {A = Result ℕ UploadError} (Ok i) (Ok k) = is in cc)))
   paths_gone paths n s t r v w was now plain (short all i a) clear = gone_none i i all r v w (equal_worlds v w (one_told (view.state s).told v w was now)) (λ k is. cc)
   paths_gone paths n s t r v w was now plain (stops path rest i a b e removes keeps) ((hides, free), clear) =
-      let took = took_one view writes c (λ s. finds_as_written (ways s)) takes_all lists (local_reads view lists writes c ways memory moment local) path s t v w (Err e) was now plain hides free removes in record {
+      let took = took_one view writes c (λ s. finds_as_written (ways s)) takes_all path s t v w (Err e) was now plain hides free removes in record {
         others = λ p off. took_keeps v w path.names p took (λ f. off (inl f));
         nothing = λ p none. none_took v w path.names p took none;
         all = λ k is p j. cc;
@@ -222,8 +222,8 @@ module _ {S C : Type 0} (view : View S C LocalFsFile) (lists : Listings S C Loca
   paths_gone paths n s t r v w was now plain (goes path rest i a m b q removes keeps on) ((hides, free), clear) =
       let taken = takes_all.removes s m path (Ok tt) plain removes in
       let (x, here_so, ends) = told_after (view.state s).told (view.state m).told _ v taken.1 was in
-      let took = took_one view writes c (λ s. finds_as_written (ways s)) takes_all lists (local_reads view lists writes c ways memory moment local) path s m v x (Ok tt) was here_so plain hides free removes in
-      let unseen = removed_one view writes c (λ s. finds_as_written (ways s)) takes_all lists (local_reads view lists writes c ways memory moment local) path s m v x (Ok tt) was here_so plain hides free removes in
+      let took = took_one view writes c (λ s. finds_as_written (ways s)) takes_all path s m v x (Ok tt) was here_so plain hides free removes in
+      let unseen = removed_one view writes c (λ s. finds_as_written (ways s)) takes_all path s m v x (Ok tt) was here_so plain hides free removes in
       let then = paths_gone rest (i + 1) m t r x w here_so now taken.0 on (still_clear v x rest unseen clear) in
       let first : row_at x.tree path.names ≡ None = taken_gone v x path.names (takes_all.worlds s v was) took (ends free) in record {
         others = λ p off. rows_then v x w p (took_keeps v x path.names p took (λ f. off (inl f))) (then.others p (λ j. off (inr j)));

@@ -3,6 +3,7 @@
 
 ghost use Rattle.std.specs.Prelude.{◌≡◌, ◌⊎◌, ℕ, List, Err, None, Option, Result, Some, false, true};
 ghost use Rattle.dav_io.specs.Counts.{RefusedNothing};
+ghost use Rattle.dav_core.specs.declared.time.FileTime.{FileTime as Time};
 ghost use Rattle.dav_core.specs.DavPath.{WebPath};
 ghost use Rattle.dav_core.specs.Disk.{DiskState};
 ghost use Rattle.dav_core.specs.Tree.{is_linked, row_at};
@@ -28,11 +29,12 @@ ghost use Rattle.dav_upload.specs.Others.{IsAny, LeavesOthers};
 ghost use Rattle.dav_upload.specs.Shown.{SameShown};
 ghost use Rattle.dav_upload.specs.Standing.{StandsIn};
 ghost use Rattle.dav_upload.specs.Steps.{HasClearNames, IsBeside, IsClear};
-ghost use Rattle.dav_upload.specs.Takes.{ReadsPlainly, TakesUploads};
+ghost use Rattle.dav_upload.specs.Takes.{LeadsPlainly, ReadsPlainly, TakesUploads};
+ghost use Rattle.dav_upload.specs.Sweeping.{SweepsBefore};
 ghost use Rattle.dav_upload.specs.Uploading.{Aborts, Begins, Commits, Sweeps, WritesPiece};
 ghost use Rattle.dav_upload_laws.specs.Passing.{PassesTable, Succeeds};
 ghost use Rattle.dav_upload_laws.specs.Reading.{IsRead, IsShownAt, handle_of};
-ghost use Rattle.dav_upload_laws.specs.Swept.{Swept};
+ghost use Rattle.dav_upload_laws.specs.Swept.{IsNotLeftBefore, Swept, SweptBefore};
 ghost use Rattle.dav_upload_laws.specs.Written.{finds_as_written};
 
 use dav_core::{DavError, Disk};
@@ -42,11 +44,13 @@ use dav_memory::Remember;
 use dav_store::{DavFile, DavFileSystem};
 
 /// A local store is one over which uploads are whole, where names don't fold and the disk's root is served. The reading
-/// of a directory leaves that.
+/// of a directory leaves that, and so do all calls that write nothing.
 pub fn local_stores_take_uploads<D: Disk, R: Remember>(_fs: &LocalFs<D, R>)
     ensures takes { TakesUploads ⟦<LocalFs<D, R> as DavFileSystem>⟧.view ⟦<LocalFsFile as DavFile<D>>⟧.view.writes tt
         (λ s. finds_as_written s.ways) }
     ensures reads { ReadsPlainly ⟦<LocalFs<D, R> as DavFileSystem>⟧.view ⟦<LocalFs<D, R> as DavFileSystem>⟧.listings tt
+        (λ s. finds_as_written s.ways) }
+    ensures leads { LeadsPlainly ⟦<LocalFs<D, R> as DavFileSystem>⟧.view ⟦<LocalFs<D, R> as DavFileSystem>⟧.listings tt
         (λ s. finds_as_written s.ways) }
 {
     calls_are_local(_fs)
@@ -148,6 +152,26 @@ pub fn local_sweeps_take_what_is_left<D: Disk, R: Remember>(_fs: &LocalFs<D, R>)
         → (D.state s.disk).told ≡ Some v → (D.state t.disk).told ≡ Some w → finds_as_written s.ways ≡ true
         → HasClearNames v dir.names → is_clear v.tree dir.names ≡ true
         → Sweeps ⟦<LocalFs<D, R> as DavFileSystem>⟧.view ⟦<LocalFs<D, R> as DavFileSystem>⟧.listings tt dir s r t → Swept dir r v w }
+{
+    calls_are_local(_fs)
+}
+
+/// A sweep of what was left before a time in a directory in which no link stands takes exactly the regular files with
+/// hidden names among its members that were changed before it, unless the count of faults rose. It leaves to others what
+/// they have at all other paths: so each upload whose file was written to since goes on standing.
+pub fn local_sweeps_take_what_was_left_before<D: Disk, R: Remember>(_fs: &LocalFs<D, R>)
+    ensures swept { (dir : WebPath) (limit : Time) (s t : LocalFs D R) (v w : World) (r : Result ℕ Refusal)
+        → (D.state s.disk).told ≡ Some v → (D.state t.disk).told ≡ Some w → finds_as_written s.ways ≡ true
+        → HasClearNames v dir.names → is_clear v.tree dir.names ≡ true
+        → SweepsBefore ⟦<LocalFs<D, R> as DavFileSystem>⟧.view ⟦<LocalFs<D, R> as DavFileSystem>⟧.listings tt dir limit
+        s r t
+        → SweptBefore dir.names limit r (D.state s.disk).faults (D.state t.disk).faults v w }
+    ensures others { (dir : WebPath) (limit : Time) (s t : LocalFs D R) (v w : World) (r : Result ℕ Refusal)
+        → (D.state s.disk).told ≡ Some v → (D.state t.disk).told ≡ Some w → finds_as_written s.ways ≡ true
+        → HasClearNames v dir.names → is_clear v.tree dir.names ≡ true
+        → SweepsBefore ⟦<LocalFs<D, R> as DavFileSystem>⟧.view ⟦<LocalFs<D, R> as DavFileSystem>⟧.listings tt dir limit
+        s r t
+        → LeavesOthers None (IsNotLeftBefore v dir.names limit) (D.state s.disk).live (D.state t.disk).live v w }
 {
     calls_are_local(_fs)
 }

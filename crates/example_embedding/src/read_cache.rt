@@ -7,16 +7,17 @@ ghost use Rattle.dav_get.specs.Bodies.{IsHeld};
 ghost use Rattle.dav_local.specs.LocalFiles.{local_file};
 ghost use Rattle.dav_readcache.specs.Cached.{cached_file};
 
-use crate::{gathered, request_of};
 use anyhow::{Result, bail};
+use dav_body::{Body, BodyFault, BodyType, collect};
 use dav_config::{Answered, DavConfig, DavHandler};
 use dav_disk::MemDisk;
-use dav_io::Moment;
+use dav_get::GetBody;
+use dav_io::{Moment, Octets};
 use dav_local::{LocalFs, LocalFsFile};
 use dav_memory::Forget;
 use dav_readcache::{CachedFile, ReadCache};
-use dav_store::{GuardedFileSystem, OneBody};
-use http::Request;
+use dav_store::{DavFile, GuardedFileSystem, OneBody};
+use http::{Method, Request, Uri};
 use std::alloc::Global;
 
 type Handler = DavHandler<ReadCache<LocalFs<MemDisk, Forget>, ()>, ()>;
@@ -30,12 +31,47 @@ fn handler_over(alloc: Global, disk: MemDisk) -> Result<Handler> {
     Ok(DavConfig::new(alloc).filesystem(cache).build_handler())
 }
 
+// A request with a body in memory.
+fn request_of(alloc: Global, method: &str, target: &str, bytes: &[u8]) -> Result<Request<OneBody>> {
+    let mut body = Octets::empty(alloc);
+    body.extend(bytes)?;
+    let mut request = Request::new(alloc, OneBody::new(body)?);
+    *request.method_mut() = Method::from_bytes(alloc, method.as_bytes())?;
+    *request.uri_mut() = Uri::from_str(alloc, target)?;
+    Ok(request)
+}
+
 // The answer to a request. `may` is what a poll of its body requires, and holds at once.
 fn answered(handler: &mut Handler, request: Request<OneBody>) -> Answered<CachedFile<LocalFsFile>>
     ensures may { IfOk result (λ r. IfSome handler.new.store (λ s. MayPoll
         (λ b d. IsHeld (cached_file local_file) (mem_state d) b) (inner_of r) s.store.disk)) }
 {
     handler.handle(request, Moment(0))
+}
+
+// Ends a body. Where it wasn't read to its end, its file is open still, and closed here.
+fn end<F: DavFile<MemDisk>>(disk: &mut MemDisk, body: Body<GetBody<F>>)
+    requires { MayPoll (λ b d. IsHeld F.view (mem_state d) b) body.inner disk.old }
+{
+    let Body { inner } = body;
+    match inner {
+        BodyType::AsyncStream(stream) => stream.into_steps().close(disk),
+        BodyType::Bytes(_) | BodyType::Empty => {}
+    }
+}
+
+// All bytes of a body, which is polled with the disk of its store until it ends.
+fn gathered<F: DavFile<MemDisk>>(
+    alloc: Global,
+    disk: &mut MemDisk,
+    body: Body<GetBody<F>>,
+) -> Result<Octets, BodyFault>
+    requires { MayPoll (λ b d. IsHeld F.view (mem_state d) b) body.inner disk.old }
+{
+    let mut body = body;
+    let all = collect(alloc, &mut body, disk);
+    end(disk, body);
+    all
 }
 
 // The bytes of a file by a GET, and how many calls the disk was asked then.

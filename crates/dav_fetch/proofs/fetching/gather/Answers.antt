@@ -25,6 +25,7 @@ loop-at-init g c =
       refl,
       omega arith,
       refl,
+      λ s h. h,
     )
 
 pub take_file-kept-requires-clause-kept : goal.take_file-kept-requires-clause-kept
@@ -88,6 +89,7 @@ loop-at-preserved g c =
       search rules,
       omega (arith, i.10, c.take_file-kept.ensures.replies),
       subst (λ e. CountsFailure (is_peer_failure e) (g.P.Peer.calls c.loop-at.peer) (g.P.Peer.calls c.take_file-kept.new.peer)) c.in_default.is c.take_file-kept.ensures.failures ∙ i.11,
+      λ s h. c.take_file-kept.ensures.since s (i.12 s h),
     )
 
 pub returns-in-Err-clause-few : goal.returns-in-Err-clause-few

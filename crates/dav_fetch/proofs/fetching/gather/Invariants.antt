@@ -1,4 +1,5 @@
 use Rattle.std.proofs.Common.{◌≡◌, ◌≤◌, ◌+◌, ◌-◌, List, drop, length, reverse, vec_len, vec_capacity}
+use Rattle.dav_core.specs.Disk.{DiskState}
 use Rattle.dav_fetch.specs.Fetching.{Files, Visits}
 use Rattle.dav_fetch.specs.Keeping.{AreInOrder}
 use Rattle.dav_fetch.specs.Walk.{Visit}
@@ -14,6 +15,7 @@ invariant-loop-at g l = (visits : List Visit) × Visits (g.P.Peer.state l.fn.pee
     × (g.P.Peer.loan l.peer ≡ g.P.Peer.loan l.fn.peer)
     × ((g.P.Peer.calls l.peer).replies + l.fn.made ≤ (g.P.Peer.calls l.fn.peer).replies + l.made)
     × ((g.P.Peer.calls l.peer).failures ≡ (g.P.Peer.calls l.fn.peer).failures)
+    × ((s : DiskState) → g.P.Peer.since l.fn.peer s → g.P.Peer.since l.peer s)
 
 abbrev pub decreases-loop-at : goal.decreases-loop-at
 decreases-loop-at g l = length l.paths - l.at

@@ -16,4 +16,5 @@ loop-left-preserved g c =
       search rules,
       omega (arith, i.6, c.in-Ok.ensures.calls.replies),
       c.in-Ok.ensures.calls.failures ∙ i.7,
+      λ s h. c.piece.ensures.since s (i.8 s h),
     )

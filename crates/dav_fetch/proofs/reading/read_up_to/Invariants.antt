@@ -1,4 +1,5 @@
 use Rattle.std.proofs.Common.{◌≡◌, ◌≤◌, ◌-◌, ◌++◌, ℕ, List, length, take}
+use Rattle.dav_core.specs.Disk.{DiskState}
 use Rattle.dav_fetch.specs.Reading.{ReadOn}
 use Rattle.dav_fetch.proofs.reading.read_up_to.Given as goal
 
@@ -8,6 +9,7 @@ invariant-loop-left g l = (came : List ℕ) × ReadOn (g.P.Peer.state l.initial.
     × (g.P.Peer.loan l.peer ≡ g.P.Peer.loan l.initial.peer)
     × ((g.P.Peer.calls l.peer).replies ≤ (g.P.Peer.calls l.initial.peer).replies)
     × ((g.P.Peer.calls l.peer).failures ≡ (g.P.Peer.calls l.initial.peer).failures)
+    × ((s : DiskState) → g.P.Peer.since l.initial.peer s → g.P.Peer.since l.peer s)
 
 abbrev pub decreases-loop-left : goal.decreases-loop-left
 decreases-loop-left g l = l.left

@@ -43,4 +43,5 @@ loop-at-preserved g c =
       search rules,
       omega (arith, i.7, c.in-Ok.ensures.replies, c.in-Ok.ensures.made.0),
       c.in-Ok.ensures.failures ∙ i.8,
+      λ s h. c.go_on.ensures.since s (i.9 s h),
     )

@@ -1,4 +1,5 @@
 use Rattle.std.proofs.Common.{◌≡◌, ◌≤◌, ◌+◌, ◌-◌, List, length}
+use Rattle.dav_core.specs.Disk.{DiskState}
 use Rattle.dav_fetch.specs.Fetching.{WholeVisits}
 use Rattle.dav_fetch.specs.Walk.{Pages, Visit, start, way_of}
 use Rattle.dav_fetch.proofs.walking.walk.Given as goal
@@ -10,6 +11,7 @@ invariant-loop-at g l = (visits : List Visit) × WholeVisits (g.P.Peer.state l.i
     × (g.P.Peer.loan l.peer ≡ g.P.Peer.loan l.initial.peer)
     × ((g.P.Peer.calls l.peer).replies ≤ (g.P.Peer.calls l.initial.peer).replies + l.walked.made)
     × ((g.P.Peer.calls l.peer).failures ≡ (g.P.Peer.calls l.initial.peer).failures)
+    × ((s : DiskState) → g.P.Peer.since l.initial.peer s → g.P.Peer.since l.peer s)
 
 abbrev pub decreases-loop-at : goal.decreases-loop-at
 decreases-loop-at g l = l.most - l.walked.made

@@ -7,4 +7,4 @@ returns-in-Store-clause-failed g c = λ few failed.
 
 pub returns-in-Sweep-clause-failed : goal.returns-in-Sweep-clause-failed
 returns-in-Sweep-clause-failed g c = λ few failed.
-    swept_rose g.S.GuardedFileSystem.view g.S.GuardedFileSystem.listings g.S.File.DavFile.view.writes c.args.credentials.now few _ _ _ _ failed c.sweep_at.ensures.table
+    swept_rose g.S.GuardedFileSystem.view g.S.GuardedFileSystem.listings g.S.File.DavFile.view.writes c.args.credentials.now few _ _ _ _ _ failed c.sweep_at.ensures.table
