@@ -179,7 +179,7 @@ def listed(store, path, kind):
     line += "end"
     for name, stood in names:
         if kind == "none":
-            text = told_or_refused(lambda at: length_text(Stood(store.disk.meta(at))), listing.path + (name,))
+            text = told_or_refused(lambda at: length_text(Stood(store.disk.lend().meta(at))), listing.path + (name,))
         else:
             text = FS_TEXTS[listing.refusals[name]] if stood is None else length_text(stood)
         line += f", {name} {text}"
@@ -227,6 +227,6 @@ def on_store(parts, set_disk):
     store, line = Store(Disk()), ""
     for part in parts:
         words = part.strip().split(" ")
-        if not set_disk(store.disk, words):
+        if not set_disk(store.disk.lend(), words):
             line += told_or_refused(call_of_store, store, words) + " | "
     return line + counts(store.disk)

@@ -51,6 +51,7 @@ class Compared:
 
     def write(self):
         """Writes the wanted rows anew. Lines beyond the model stay as they are."""
-        lines = [old if new is None else new for old, new in zip(self.old, self.new)]
+        stands = self.old + [""] * (len(self.new) - len(self.old))
+        lines = [old if new is None else new for old, new in zip(stands, self.new)]
         with open(file_of(self.driver, "stdout"), "w", newline="\n", encoding="utf-8") as file:
             file.write("\n".join(lines) + "\n")

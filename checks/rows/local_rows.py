@@ -151,7 +151,7 @@ def seal(store, path, names):
     times = []
     for _ in range(2):
         try:
-            meta = store.disk.meta(path)
+            meta = store.disk.lend().meta(path)
             times.append(meta.time if meta.kind == "dir" else None)
         except DiskError:
             times.append(None)

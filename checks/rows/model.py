@@ -541,7 +541,6 @@ def file_fields(stood):
         fields["last-modified"] = date_text(stood.seconds)
     if stood.tag is not None:
         fields["etag"] = b'"' + stood.tag + b'"'
-    fields["x-content-type-options"] = "nosniff"
     return fields
 
 

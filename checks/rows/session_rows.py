@@ -56,24 +56,27 @@ def wanted_room(row):
     return answers + asked_and_failed(disk, disk.asked)
 
 
-def watch(disk, path):
-    """The paths at which a disk is looked at from now on, as far as they are this one."""
-    seen, meta = [], disk.meta
+def watch(disk, word):
+    """The paths at which a disk is looked at from now on, or with `open:` before the path those that are opened, as far
+    as they are this one."""
+    name, path = ("open", word.removeprefix("open:")) if word.startswith("open:") else ("meta", word)
+    path, seen, call = names_of(path), [], getattr(disk, name)
 
-    def look(at):
+    def watched(at, *how):
         seen.extend([at] if at == path else [])
-        return meta(at)
-    disk.meta = look
+        return call(at, *how)
+    setattr(disk, name, watched)
     return seen
 
 
 def wanted_meeting(row):
-    """All but the first session are asked as if they were alone behind it: none leaves anything that another finds."""
+    """All but the first session are asked as if they were alone behind it: none leaves anything that another finds.
+    Where not all come to the meeting, it is played once."""
     times, path, scenes = row.split(" ", 2)
-    looks = []
-    told = joined(scenes, Memory(ROOM, ROOM), lambda place: f", met {str(looks[place] != []).lower()}" if place else "",
-                  lambda scene: looks.append(watch(scene.disk, names_of(path))))
-    return f"{told}, alike {times}"
+    came = []
+    told = joined(scenes, Memory(ROOM, ROOM), lambda place: f", met {str(came[place] != []).lower()}" if place else "",
+                  lambda scene: came.append(watch(scene.disk, path)))
+    return f"{told}, alike {times if all(came[1:]) else 1}"
 
 
 STEPS = "GET /d/ | GET /d/._b | GET /d/._a"

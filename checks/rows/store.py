@@ -120,6 +120,25 @@ class Memory:
             self.dots.purge(now)
 
 
+class Ground:
+    """A store's disk, with what the last search that found nothing sought: a directory, and a folding that no name in it
+    has. That holds until the disk is lent or changed, or a file is used, or the store's moment is set."""
+    KEEPING = ("meta", "link_meta", "list", "list_next", "end_list")
+
+    def __init__(self, disk):
+        self.disk, self.missing = disk, None
+
+    def lend(self):
+        self.missing = None
+        return self.disk
+
+    def __getattr__(self, name):
+        found = getattr(self.disk, name)
+        if not callable(found) or name in self.KEEPING:
+            return found
+        return lambda *what: getattr(self.lend(), name)(*what)
+
+
 class Listing:
     """An open listing of a store: batches of names with their metadata, unless none is to be read."""
 
@@ -183,8 +202,18 @@ class Store:
     """A store of the disk's root, or of one file alone, at whatever path it is asked."""
 
     def __init__(self, disk, memory=None, folds=False, macos=False, alone=None):
-        self.disk, self.memory, self.folds, self.macos = disk, memory or Memory(), folds, macos
-        self.alone, self.now = alone, 0
+        self.disk, self.memory, self.folds, self.macos = Ground(disk), memory or Memory(), folds, macos
+        self.alone, self.moment = alone, 0
+
+    @property
+    def now(self):
+        return self.moment
+
+    @now.setter
+    def now(self, moment):
+        """A moment that is set begins a step."""
+        self.disk.lend()
+        self.moment = moment
 
     def asks(self, call, *what):
         """Makes a call of the disk. Its refusal becomes the store's."""
@@ -248,11 +277,20 @@ class Store:
         return parent + (alike,)
 
     def alike(self, directory, name):
-        """The name in a directory that folds like this one, by a listing of it."""
+        """The name in a directory that folds like this one, by a listing of it, unless it is known to have none."""
+        sought = directory, name.casefold()
+        if self.disk.missing == sought:
+            return None
+        folded = self.listed(*sought)
+        if folded is None:
+            self.disk.missing = sought
+        return folded
+
+    def listed(self, directory, folding):
         try:
             names, folded = self.disk.list(directory), None
             while folded is None and (other := self.disk.list_next(names)) is not None:
-                folded = other if other.casefold() == name.casefold() else None
+                folded = other if other.casefold() == folding else None
             return folded
         except DiskError as error:
             if error.name == "Failed":

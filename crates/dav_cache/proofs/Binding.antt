@@ -12,7 +12,9 @@ use Rattle.dav_core.specs.Tree.{row_at, is_dir, is_linked, look_from, look}
 use Rattle.dav_core.specs.declared.tree.Kind.TheVariants.{Dir, File, Link}
 use Rattle.dav_core.proofs.LookLemmas.{standing_row, below_ok}
 use Rattle.dav_memory.specs.Trees.{Name, Names, FileTime, Tree, same_path, has_row, time_of_row, fold_path}
-use Rattle.dav_memory.specs.Entries.{Paths, PathEntry, PathCache, DuEntry, DotCache, without, promoted, dir_key, same_key, concludes, is_time}
+use Rattle.dav_memory.specs.Entries.{Paths, PathCache, DotCache, without, promoted, dir_key, same_key, concludes, is_time}
+use Rattle.dav_memory.specs.declared.entry.PathEntry.{PathEntry}
+use Rattle.dav_memory.specs.declared.key.DuEntry.{DuEntry}
 use Rattle.dav_memory.specs.Calls.{LooksBy, Seeing, Opening, Denies, probed, found_by, has_time, dropped}
 use Rattle.dav_cache.specs.Core.{State, Place, Turn, goes, time_told, ask, peeked, peek, check, conclude, drop_dir, find, got, get, probe, drop, turn, step, run}
 use Rattle.dav_cache.specs.declared.event.Event.TheVariants.{Ask, Peek, Check, Conclude, DropDir, Find, Get, Probe, Drop}

@@ -3,7 +3,9 @@ use Rattle.std.proofs.Common.{◌≡◌, ◌≢◌, ℕ, zero, suc, ◌<◌, ◌
 use Rattle.std.specs.Map.{lookup}
 use Rattle.std.proofs.lemmas.Bool.{true≢false, ne_eqb, eq-eqb}
 use Rattle.dav_memory.specs.Trees.{Name, Names, same_name}
-use Rattle.dav_memory.specs.Entries.{DuKey, DuEntry, Dots, Listed, without, dir_key, name_key, same_key, put_name, put_dir, put_names, sealed, is_named, named, AllUnder, IsCounted}
+use Rattle.dav_memory.specs.Entries.{Dots, Listed, without, dir_key, name_key, same_key, put_name, put_dir, put_names, sealed, is_named, named, AllUnder, IsCounted}
+use Rattle.dav_memory.specs.declared.key.DuKey.{DuKey}
+use Rattle.dav_memory.specs.declared.key.DuEntry.{DuEntry}
 use Rattle.dav_memory.proofs.Keys.{key_decides, key_tells, path_tells, name_decides, dir≢name, same_dir}
 use Rattle.dav_memory.proofs.Lists.{lookup-without_same, lookup-take}
 use Rattle.dav_cache.proofs.Dots.{AllBelow, Falling, below-take, below-without, below-lookup, falling-take, falling-without, lookup-away, lookup-past, lookup-front}

@@ -6,11 +6,14 @@ use Rattle.std.proofs.Math.Seq.{take-suc}
 use Rattle.std.proofs.lemmas.Bool.{cases_Bool, false≢true, true≢false, and_parts, or_cases, lt-ltb, le-ltb}
 use Rattle.lru.specs.LruCache.{LruCache, lru_cache, put_entries}
 use Rattle.dav_memory.specs.Trees.{Name, Names, same_name, is_after, is_less}
-use Rattle.dav_memory.specs.Entries.{DuKey, DuEntry, Dots, Listed, AreCounted, without, put, dir_key, same_key, put_name, put_dir, put_names, some_put, sealed, is_rising}
+use Rattle.dav_memory.specs.Entries.{Dots, Listed, AreCounted, without, put, dir_key, same_key, put_name, put_dir, put_names, some_put, sealed, is_rising}
+use Rattle.dav_memory.specs.declared.key.DuKey.{DuKey}
+use Rattle.dav_memory.specs.declared.key.DuEntry.{DuEntry}
 use Rattle.dav_memory.proofs.Keys.{key_decides, name_decides}
 use Rattle.dav_cache.proofs.Bridge.{put-fresh}
 use Rattle.dav_cache.proofs.Lru.{removed_is, put_is}
-use Rattle.dav_cache.proofs.Order.{less_itself, after_trans}
+use Rattle.dav_cache.proofs.Order.{after_trans}
+use Rattle.dav_memory.proofs.Order.{less_itself}
 use Rattle.dav_cache.proofs.Dots.{below-take, below-without, falling-take, falling-without, seals}
 use Rattle.dav_cache.proofs.Counts.{AreNew, counted-take, counted-dropped, counted-sealed}
 use Rattle.dav_cache.proofs.Facts.{nothing_known}

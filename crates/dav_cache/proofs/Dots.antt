@@ -6,7 +6,9 @@ use Rattle.std.specs.List.{list_any}
 use Rattle.std.proofs.lemmas.Bool.{ne_eqb, eq-eqb}
 use Rattle.std.proofs.Math.Bool.{or-false}
 use Rattle.dav_memory.specs.Trees.{Name, Names, Tree, same_name, is_dot, has_name, time_of}
-use Rattle.dav_memory.specs.Entries.{DuKey, DuEntry, Dots, Listed, without, put, dir_key, name_key, same_key, stands, put_name, put_dir, put_names, sealed}
+use Rattle.dav_memory.specs.Entries.{Dots, Listed, without, put, dir_key, name_key, same_key, stands, put_name, put_dir, put_names, sealed}
+use Rattle.dav_memory.specs.declared.key.DuKey.{DuKey}
+use Rattle.dav_memory.specs.declared.key.DuEntry.{DuEntry}
 pub use Rattle.dav_cache.specs.Transparency.{AllBelow, Falling}
 use Rattle.dav_cache.specs.Transparency.{SoundAt}
 use Rattle.dav_memory.proofs.Keys.{key_decides, key_tells, name_tells, path_tells, path_cases, dir≢name, same_dir, same_member}

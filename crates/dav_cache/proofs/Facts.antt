@@ -11,7 +11,8 @@ use Rattle.dav_memory.proofs.Lists.{purged-take}
 use Rattle.dav_cache.proofs.Places.{get-replicate}
 use Rattle.dav_cache.specs.Transparency.{AllBelow, Falling, Numbers, AllNumbered, HoldsNumber, FactsAreKept, fits}
 use Rattle.dav_memory.proofs.Keys.{name_decides}
-use Rattle.dav_cache.proofs.Order.{less_itself, after_trans, least_is, any-push, any-filter}
+use Rattle.dav_cache.proofs.Order.{after_trans, least_is, any-filter}
+use Rattle.dav_memory.proofs.Order.{less_itself, any-push}
 use Rattle.dav_cache.proofs.Dots.{below-take, below-without, below-lookup, falling-take, falling-without, seals}
 use Rattle.dav_cache.proofs.Numbers.{numbered-lookup, numbered-take, numbered-without, numbered-sealed, numbered-like, with_number, with_number-own, with_number-other}
 use Rattle.dav_cache.proofs.Counts.{AreNew, counted-take, counted-dropped, counted-sealed}

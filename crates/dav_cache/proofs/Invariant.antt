@@ -3,7 +3,8 @@ use Rattle.std.proofs.Common.{◌≡◌, ◌≢◌, ℕ, ◌<◌, ◌≤◌, tru
 use Rattle.std.specs.Map.{lookup}
 use Rattle.std.specs.List.{list_any}
 use Rattle.dav_memory.specs.Trees.{Name, Names, FileTime, Tree, same_name, is_dot, is_after, has_name, time_of}
-use Rattle.dav_memory.specs.Entries.{DuEntry, dir_key, same_key}
+use Rattle.dav_memory.specs.Entries.{dir_key, same_key}
+use Rattle.dav_memory.specs.declared.key.DuEntry.{DuEntry}
 use Rattle.dav_cache.specs.Core.{State, Place, Listing, settled}
 use Rattle.dav_cache.specs.declared.place.Place.TheVariants.{Idle, Asked, Peeked, Passed, Failed, Begun, Lists, Ended, Finding, Got, Missed}
 use Rattle.dav_cache.specs.Transparency.{SoundAt, SameNames, IsListing}

@@ -5,7 +5,9 @@ use Rattle.std.specs.Option.{option_map_or}
 use Rattle.std.proofs.lemmas.List.{append-nil}
 use Rattle.std.proofs.lemmas.Bool.{false≢true, and_parts, not-true, eqb-true}
 use Rattle.dav_memory.specs.Trees.{Names, Tree}
-use Rattle.dav_memory.specs.Entries.{DuKey, DuEntry, Dots, dir_key, name_key, same_key, stands}
+use Rattle.dav_memory.specs.Entries.{Dots, dir_key, name_key, same_key, stands}
+use Rattle.dav_memory.specs.declared.key.DuKey.{DuKey}
+use Rattle.dav_memory.specs.declared.key.DuEntry.{DuEntry}
 use Rattle.dav_cache.specs.Core.{Event, State, Turn, turn, told, run, start}
 use Rattle.dav_cache.specs.declared.event.Event.TheVariants.{Check}
 use Rattle.dav_cache.specs.declared.place.Place.TheVariants.{Passed, Got}

@@ -13,7 +13,10 @@ use Rattle.dav_core.specs.Tree.{is_dir}
 use Rattle.dav_memory.specs.declared.sealed.Sealed.{Sealed}
 use Rattle.dav_memory.specs.declared.sealed.Sealed.TheVariants.{Done, Last, NoMemory}
 use Rattle.dav_memory.specs.Trees.{Name, Names, FileTime, same_name, same_path, fold_path}
-use Rattle.dav_memory.specs.Entries.{DuKey, DuEntry, Dots, Listed, PathEntry, PathCache, DotCache, AreCounted, Falling, without, put, purged, inserted, is_old_dot, is_old_path, dir_key, name_key, same_key, stands, concludes, is_time, put_name, put_dir, put_names, sealed}
+use Rattle.dav_memory.specs.Entries.{Dots, Listed, PathCache, DotCache, AreCounted, Falling, without, put, purged, inserted, is_old_dot, is_old_path, dir_key, name_key, same_key, stands, concludes, is_time, put_name, put_dir, put_names, sealed}
+use Rattle.dav_memory.specs.declared.key.DuKey.{DuKey}
+use Rattle.dav_memory.specs.declared.key.DuEntry.{DuEntry}
+use Rattle.dav_memory.specs.declared.entry.PathEntry.{PathEntry}
 use Rattle.dav_memory.specs.Calls.{LooksBy, Denies, Seals, has_time, dropped, sealed_within}
 use Rattle.dav_memory.specs.Memory.{OwnedState, memory_of, known_at, known_by, WasKnown, LearnsNothing, AsksMeta, AsksOnceBy, Denied, GetsBy, Inserts, Negates, SealsIn, Purges}
 use Rattle.dav_memory.proofs.Keys.{time_decides, is_time_at, time_tells, path_tells, dir≢name, same_dir}

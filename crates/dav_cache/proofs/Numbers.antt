@@ -3,7 +3,9 @@ use Rattle.std.proofs.Common.{◌≡◌, ℕ, zero, suc, ◌<◌, ◌-◌, ◌==
 use Rattle.std.specs.Map.{lookup}
 use Rattle.std.proofs.lemmas.Bool.{eq-eqb, ne_eqb}
 use Rattle.dav_memory.specs.Trees.{Name, Names, FileTime}
-use Rattle.dav_memory.specs.Entries.{Dots, DuKey, DuEntry, Listed, AllBelow, same_key, dir_key, name_key, put, without, put_name, put_names, put_dir, sealed}
+use Rattle.dav_memory.specs.Entries.{Dots, Listed, AllBelow, same_key, dir_key, name_key, put, without, put_name, put_names, put_dir, sealed}
+use Rattle.dav_memory.specs.declared.key.DuKey.{DuKey}
+use Rattle.dav_memory.specs.declared.key.DuEntry.{DuEntry}
 use Rattle.dav_cache.specs.Transparency.{Numbers, AllNumbered}
 use Rattle.dav_memory.proofs.Keys.{key_tells}
 

@@ -1,17 +1,12 @@
 -- The names of a directory, given in order.
-use Rattle.std.proofs.Common.{◌≡◌, Bool, true, false, not, ◌&&◌, ◌||◌, List, [], ◌∷◌, ◌++◌, Option, Some, None, if◌then◌else◌, refl, sym, ap, subst, ◌∙◌, inl, inr, ◌⊎◌, Ordering, Less, Equal, Greater}
-use Rattle.std.specs.Cmp.Lexicographic.{slice_cmp, nat_list_cmp_total}
-use Rattle.std.specs.Ordering.{nat_cmp, is_lt, is_eq, ordering_reverse}
-use Rattle.std.proofs.lemmas.Map.Text.{is_eq-slice_cmp}
+use Rattle.std.proofs.Common.{◌≡◌, Bool, true, false, not, ◌&&◌, ◌||◌, List, [], ◌∷◌, ◌++◌, Option, Some, None, if◌then◌else◌, refl, sym, ap, subst, ◌∙◌, inl, inr, ◌⊎◌}
 use Rattle.std.specs.List.{list_any, filter}
-use Rattle.std.proofs.lemmas.Bool.{cases_Bool, false≢true, true≢false, and_parts, and_from, or_cases}
-use Rattle.std.proofs.lemmas.Cmp.{tied_itself}
+use Rattle.std.proofs.lemmas.Bool.{cases_Bool, false≢true, true≢false, and_parts, and_from}
 use Rattle.std.proofs.Math.Bool.{and-true}
-use Rattle.dav_io.proofs.Cases.{less_is}
 use Rattle.dav_memory.specs.Trees.{Name, Names, Tree, same_name, is_less, is_dot, is_after, lesser, least, next_name, names_in, has_name}
 use Rattle.dav_cache.specs.Core.{Listing, given}
 pub use Rattle.dav_cache.specs.Transparency.{HasUpTo}
-use Rattle.dav_memory.proofs.Keys.{name_decides, name_tells}
+use Rattle.dav_memory.proofs.Keys.{name_tells}
 use Rattle.dav_memory.proofs.Order.{less_itself, less_trans, less_other, any_front, any_cases, any-push}
 
 pub and_false : (b : Bool) → false ≡ (b && false)

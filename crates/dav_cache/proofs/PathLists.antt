@@ -4,7 +4,8 @@ use Rattle.std.specs.List.{IsDistinct}
 use Rattle.std.specs.Map.{keys_of, lookup, remove_entry}
 use Rattle.lru.specs.LruCache.{lru_cache, put_entries, promoted as to_front}
 use Rattle.dav_memory.specs.Trees.{Names, same_path, fold_path}
-use Rattle.dav_memory.specs.Entries.{PathEntry, Paths, AllFolded, without, put, promoted}
+use Rattle.dav_memory.specs.Entries.{Paths, AllFolded, without, put, promoted}
+use Rattle.dav_memory.specs.declared.entry.PathEntry.{PathEntry}
 use Rattle.dav_memory.proofs.Keys.{path_decides}
 use Rattle.dav_cache.proofs.Lru.{front_of, removed_is, front_is, put_is}
 use Rattle.dav_cache.proofs.Paths.{folded-take, folded-without}

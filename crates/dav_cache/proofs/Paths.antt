@@ -2,7 +2,8 @@
 use Rattle.std.proofs.Common.{◌≡◌, ℕ, zero, suc, ◌-◌, Bool, true, false, List, [], ◌∷◌, take, Some, refl, sym, ap, subst, ◌∙◌, inl, inr, slice_get}
 use Rattle.std.specs.Map.{lookup}
 use Rattle.dav_memory.specs.Trees.{Names, Tree, same_path, fold_path}
-use Rattle.dav_memory.specs.Entries.{PathEntry, Paths, without, is_old_path}
+use Rattle.dav_memory.specs.Entries.{Paths, without, is_old_path}
+use Rattle.dav_memory.specs.declared.entry.PathEntry.{PathEntry}
 use Rattle.dav_cache.specs.Core.{Event, State, Place, Turn, turn, step, run, start}
 use Rattle.dav_cache.specs.declared.place.Place.TheVariants.{Idle, Got}
 pub use Rattle.dav_cache.specs.Transparency.{AllFolded}

@@ -2,7 +2,8 @@
 use Rattle.std.proofs.Common.{◌≡◌, Option, Some, None, option_map, refl, sym, ap, ◌∙◌}
 use Rattle.std.specs.Map.{lookup}
 use Rattle.dav_memory.specs.Trees.{Names, same_path, fold_path}
-use Rattle.dav_memory.specs.Entries.{PathEntry, Paths, AllFolded, promoted}
+use Rattle.dav_memory.specs.Entries.{Paths, AllFolded, promoted}
+use Rattle.dav_memory.specs.declared.entry.PathEntry.{PathEntry}
 use Rattle.dav_cache.proofs.Paths.{folded-lookup, folded-without}
 
 -- a path that an entry tells folds like the key

@@ -7,7 +7,8 @@ use Rattle.dav_memory.specs.Entries.{is_rising}
 use Rattle.dav_cache.specs.Core.{Place, Listing, Rises, AllRise, given, lists_next}
 use Rattle.dav_cache.specs.declared.place.Place.TheVariants.{Idle, Lists}
 use Rattle.dav_memory.proofs.Keys.{name_decides}
-use Rattle.dav_cache.proofs.Order.{less_itself, less_other, after_trans, least_is, any-push, any-filter}
+use Rattle.dav_cache.proofs.Order.{after_trans, least_is, any-filter}
+use Rattle.dav_memory.proofs.Order.{less_itself, less_other, any-push}
 
 pub rise-at : (places : List Place) (c : ℕ) (place : Place) → c < length places → place ≡ get_or places c place → AllRise places → Rises place
 rise-at [] c place lt at all = absurd (omega arith)

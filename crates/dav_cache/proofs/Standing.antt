@@ -4,7 +4,8 @@ use Rattle.std.specs.List.{list_any}
 use Rattle.std.specs.Map.{lookup}
 use Rattle.std.proofs.lemmas.Bool.{lt-ltb}
 use Rattle.dav_memory.specs.Trees.{Name, Names, FileTime, Tree, same_name}
-use Rattle.dav_memory.specs.Entries.{DuEntry, Dots, Listed, AreCounted, without, purged, sealed, is_old_dot, dir_key, name_key, same_key, stands}
+use Rattle.dav_memory.specs.Entries.{Dots, Listed, AreCounted, without, purged, sealed, is_old_dot, dir_key, name_key, same_key, stands}
+use Rattle.dav_memory.specs.declared.key.DuEntry.{DuEntry}
 use Rattle.dav_cache.specs.Core.{Event, Moment, State, Turn, Listing, goes, new_dots, with_dots, seal, turn, step, run, start}
 use Rattle.dav_cache.specs.declared.event.Event.TheVariants.{Seal}
 use Rattle.dav_cache.specs.declared.place.Place.TheVariants.{Idle}

@@ -5,7 +5,8 @@ use Rattle.std.specs.List.{list_any}
 use Rattle.std.proofs.lemmas.Bool.{false≢true}
 use Rattle.std.proofs.Math.Bool.{and-true}
 use Rattle.dav_memory.specs.Trees.{Name, Names, FileTime, Tree, same_name, has_name, time_of, next_name}
-use Rattle.dav_memory.specs.Entries.{DuEntry, Dots, Listed, is_old_dot, dir_key, same_key}
+use Rattle.dav_memory.specs.Entries.{Dots, Listed, is_old_dot, dir_key, same_key}
+use Rattle.dav_memory.specs.declared.key.DuEntry.{DuEntry}
 use Rattle.dav_cache.specs.Core.{Event, State, Place, Turn, Listing, settled, one_time, is_time, time_told, given, lists_next, turn, step}
 use Rattle.dav_cache.specs.declared.event.Event.TheVariants.{Before, ListNext, Change}
 use Rattle.dav_cache.specs.declared.place.Place.TheVariants.{Idle, Asked, Peeked, Passed, Failed, Begun, Lists, Ended, Finding, Got, Missed}

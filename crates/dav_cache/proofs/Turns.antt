@@ -4,7 +4,9 @@ use Rattle.std.specs.Option.{option_map_or}
 use Rattle.std.specs.Map.{lookup}
 use Rattle.std.proofs.lemmas.Bool.{false≢true, ne_eqb, eq-eqb, cases_eq}
 use Rattle.dav_memory.specs.Trees.{Name, Names, FileTime, Tree, same_path, has_row, time_of, fold_path}
-use Rattle.dav_memory.specs.Entries.{Dots, DuEntry, PathEntry, Paths, dir_key, same_key, concludes, without, inserted, promoted, purged, sealed, is_old_path, is_old_dot}
+use Rattle.dav_memory.specs.Entries.{Dots, Paths, dir_key, same_key, concludes, without, inserted, promoted, purged, sealed, is_old_path, is_old_dot}
+use Rattle.dav_memory.specs.declared.key.DuEntry.{DuEntry}
+use Rattle.dav_memory.specs.declared.entry.PathEntry.{PathEntry}
 use Rattle.dav_cache.specs.Core.{Event, Moment, State, Place, Told, Turn, Listing, goes, settled, is_time, time_told, ask, peeked, peek, check, conclude, drop_dir, begin, before, lists_next, list_next, after, new_dots, with_dots, seal, find, got, get, probe, drop, insert, purge, turn}
 use Rattle.dav_cache.specs.declared.event.Event.TheVariants.{Ask, Peek, Check, Conclude, DropDir, Begin, Before, ListNext, After, Seal, Find, Get, Probe, Drop, Insert, Purge, Change}
 use Rattle.dav_cache.specs.declared.place.Place.TheVariants.{Idle, Asked, Peeked, Passed, Failed, Begun, Lists, Ended, Finding, Got, Missed}

@@ -10,7 +10,10 @@ use Rattle.dav_core.specs.World.{World}
 use Rattle.dav_core.specs.Tree.{is_linked}
 use Rattle.dav_memory.specs.Trees.{Name, Names, FileTime, Tree, is_dot, is_after, same_name, same_path, fold_path, has_row, has_name, time_of}
 pub use Rattle.dav_memory.specs.Entries.{AllBelow, Falling, AllFolded}
-use Rattle.dav_memory.specs.Entries.{Dots, Paths, AreCounted, PathEntry, PathCache, DotCache, DuKey, DuEntry, dir_key, name_key, same_key, stands}
+use Rattle.dav_memory.specs.Entries.{Dots, Paths, AreCounted, PathCache, DotCache, dir_key, name_key, same_key, stands}
+use Rattle.dav_memory.specs.declared.entry.PathEntry.{PathEntry}
+use Rattle.dav_memory.specs.declared.key.DuKey.{DuKey}
+use Rattle.dav_memory.specs.declared.key.DuEntry.{DuEntry}
 use Rattle.dav_cache.specs.Core.{Event, State, Place, Told, Listing, settled, start, step, told, run}
 use Rattle.dav_memory.specs.Calls.{LooksBy, Seeing, Opening, Denies}
 use Rattle.dav_cache.specs.declared.event.Event.TheVariants.{Ask, Peek, Check, Conclude, DropDir, Begin, Before, ListNext, After, Seal, Find, Get, Probe, Drop, Insert, Purge, Change}

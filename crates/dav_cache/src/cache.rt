@@ -4,13 +4,13 @@ ghost use Rattle.std.specs.Map.{lookup};
 ghost use Rattle.lru.specs.LruCache.{last_entry};
 ghost use Rattle.dav_memory.specs.Trees.{same_path, fold_path};
 ghost use Rattle.dav_memory.specs.Entries as entries;
-ghost use Rattle.dav_memory.specs.Entries.{PathEntry};
+ghost use Rattle.dav_memory.specs.declared.entry.PathEntry.{PathEntry};
 ghost use Rattle.dav_memory.specs.Calls.{LacksMemory, Looks, LooksBy, Opening, found_by, is_starved as the_is_starved, probed};
 
 use crate::valid::no_key_stands_twice;
-use crate::{FoldedPath, fold};
 use dav_core::{Disk, DiskError, FsPath, Handle, Meta, OpenOptions};
 use dav_io::{Moment, NoMemory};
+use dav_memory::{FoldedPath, PathEntry, fold};
 use lru::LruCache;
 use std::alloc::Global;
 use std::marker::Model;

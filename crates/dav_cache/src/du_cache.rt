@@ -7,12 +7,11 @@ ghost use Rattle.lru.specs.LruCache.{lru_cache, last_entry, IsValid};
 ghost use Rattle.dav_memory.specs.Entries as dots;
 ghost use Rattle.dav_memory.specs.Calls as calls;
 
-use crate::key::{copy_name, dir_key, name_key};
 use crate::trees::is_dot;
 use crate::valid::no_key_stands_twice;
-use crate::{DuEntry, DuKey};
 use dav_core::{Disk, DiskError, FileTime, FsPath, Kind, Meta};
 use dav_io::{Moment, NoMemory, Text};
+use dav_memory::{DuEntry, DuKey, Sealed, copy_name, dir_key, name_key};
 use lru::LruCache;
 use std::alloc::Global;
 use std::marker::Model;

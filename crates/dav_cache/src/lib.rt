@@ -13,6 +13,10 @@ mod valid;
 mod world;
 
 pub use cache::{Cache, is_starved};
+pub use dav_memory::{
+    DUCacheBuilder, DuEntry, DuKey, FoldedPath, Forget, PathEntry, Remember, Sealed, dir_key, fold,
+    fold_text, name_key,
+};
 pub use du_cache::DuCache;
 pub use event::{Event, Told};
 pub use owned::Owned;

@@ -1,9 +1,10 @@
 ghost use Rattle.std.specs.Prelude.{◌≡◌, ◌<◌, [], IfOk};
 ghost use Rattle.dav_memory.specs.Memory.{memory_of};
 
-use crate::{Cache, DuCache, DuKey, Remember, Sealed};
+use crate::{Cache, DuCache};
 use dav_core::{Disk, FileTime, FsPath, Handle, Meta};
 use dav_io::{Moment, NoMemory, Text};
+use dav_memory::{DuKey, Remember, Sealed};
 use std::alloc::Global;
 use std::marker::Model;
 

@@ -5,11 +5,12 @@ ghost use Rattle.std.specs.Map.{lookup};
 ghost use Rattle.dav_cache.specs.Core as core;
 ghost use Rattle.dav_memory.specs.Entries.{is_rising};
 
-use crate::key::{copy_name, dir_key, name_key};
-use crate::trees::{has_row, is_dot, is_time, next_name, time_told};
-use crate::{Cache, DuCache, Event, Listing, Names, Place, Told, fold};
+use crate::trees::{has_row, is_dot, next_name, time_told};
+use crate::{Cache, DuCache, Event, Listing, Names, Place, Told};
 use dav_core::{FileTime, FsPath, Row, Tree};
 use dav_io::{Moment, NoMemory, Text};
+use dav_memory::times::is_time;
+use dav_memory::{copy_name, dir_key, fold, name_key};
 use std::alloc::Global;
 use std::marker::Model;
 

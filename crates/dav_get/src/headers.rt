@@ -15,7 +15,7 @@ use itoa::Buffer;
 use std::alloc::Global;
 
 // The most fields of a file's answer.
-const MOST_FIELDS: usize = 7;
+const MOST_FIELDS: usize = 6;
 
 // The most bytes of the value of `content-range`: a word, three numbers and what parts them.
 const MOST_RANGE: usize = 68;
@@ -200,8 +200,6 @@ pub(crate) fn sent_fields<M: DavMetaData>(
     )?;
     add_tag(alloc, &mut fields, meta)?;
     add_date(&mut fields, meta)?;
-    let nosniff = Text::new(Vec::from_slice(alloc, b"x-content-type-options")?);
-    add_field(&mut fields, nosniff, b"nosniff")?;
     Ok(Fields::new(fields))
 }
 

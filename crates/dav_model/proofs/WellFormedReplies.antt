@@ -99,7 +99,7 @@ known_names = (
                             known (codes "pragma") (omega arith, AllPass-from_list_all is_token_byte (codes "pragma") refl) (13, omega arith, refl),
                             (
                               known (codes "vary") (omega arith, AllPass-from_list_all is_token_byte (codes "vary") refl) (14, omega arith, refl),
-                              (known (codes "x-content-type-options") (omega arith, AllPass-from_list_all is_token_byte (codes "x-content-type-options") refl) (15, omega arith, refl), tt),
+                              tt,
                             ),
                           ),
                         ),
@@ -240,12 +240,16 @@ redirect_some address tag date fits tagged dated = covers reply_names
 
 pub sent_some : (gives : Bool) (type : List ℕ) (len : ℕ) (tag date : Option (List ℕ)) (sent : Sent) → Fits type → FitsWhere (quoted_where tag) → FitsWhere date
     → HasSome reply_names (sent_fields gives type len tag date sent)
-sent_some gives type len tag date sent fits tagged dated = covers reply_names
+sent_some gives type len tag None sent fits tagged dated = covers reply_names
     (must (codes "accept-ranges") (codes "bytes") ∷ may (codes "content-length") (option_map decimal (sent_length gives len sent))
     ∷ may (codes "content-range") (sent_range len sent) ∷ must (codes "content-type") (sent_type type sent)
-    ∷ may (codes "etag") (quoted_where tag) ∷ may (codes "last-modified") date
-    ∷ must (codes "x-content-type-options") (codes "nosniff") ∷ []) refl
-    (record { all = refl }, (length_fits gives len sent, (range_fits len sent, (sent_type_fits type sent fits, (tagged, (dated, (record { all = refl }, tt)))))))
+    ∷ may (codes "etag") (quoted_where tag) ∷ []) refl
+    (record { all = refl }, (length_fits gives len sent, (range_fits len sent, (sent_type_fits type sent fits, (tagged, tt)))))
+sent_some gives type len tag (Some date) sent fits tagged dated = covers reply_names
+    (must (codes "accept-ranges") (codes "bytes") ∷ may (codes "content-length") (option_map decimal (sent_length gives len sent))
+    ∷ may (codes "content-range") (sent_range len sent) ∷ must (codes "content-type") (sent_type type sent)
+    ∷ may (codes "etag") (quoted_where tag) ∷ must (codes "last-modified") date ∷ []) refl
+    (record { all = refl }, (length_fits gives len sent, (range_fits len sent, (sent_type_fits type sent fits, (tagged, (dated, tt))))))
 
 pub page_some : HasSome reply_names page_fields
 page_some = covers reply_names (must (codes "content-type") (codes "text/html; charset=utf-8") ∷ []) refl (record { all = refl }, tt)

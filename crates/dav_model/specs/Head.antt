@@ -180,8 +180,7 @@ announced_fields type len tag date sent announced =
     ∷ (field_where (codes "content-length") (option_map decimal announced)
     ++ (field_where (codes "content-range") (sent_range len sent)
     ++ (field (codes "content-type") (sent_type type sent)
-    ∷ (field_where (codes "etag") (quoted_where tag) ++ (field_where (codes "last-modified") date
-    ++ field (codes "x-content-type-options") (codes "nosniff") ∷ [])))))
+    ∷ (field_where (codes "etag") (quoted_where tag) ++ field_where (codes "last-modified") date))))
 
 -- the same, with the length that is announced of what is sent
 abbrev pub sent_fields : Bool → List ℕ → ℕ → Option (List ℕ) → Option (List ℕ) → Sent → List Field

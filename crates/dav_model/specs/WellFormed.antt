@@ -33,7 +33,6 @@ reply_names =
     ∷ codes "content-range" ∷ codes "content-type" ∷ codes "dav" ∷ codes "etag" ∷ codes "expires"
     ∷ codes "last-modified"
     ∷ codes "location" ∷ codes "ms-author-via" ∷ codes "pragma" ∷ codes "vary"
-    ∷ codes "x-content-type-options"
     ∷ []
 
 -- The name of a field is a token and its value a field value (RFC 9110, sections 5.1 and 5.5), so neither has a byte

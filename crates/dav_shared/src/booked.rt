@@ -7,9 +7,10 @@ ghost use Rattle.dav_shared.specs.Books.{IsUntold, KeepsTo, MaySeal, denies_at, 
 ghost use Rattle.dav_shared.specs.Holds.{SealsFor};
 
 use crate::Book;
-use dav_cache::{DuCache, DuKey, Sealed};
+use dav_cache::DuCache;
 use dav_core::FileTime;
 use dav_io::{Moment, NoMemory, Text};
+use dav_memory::{DuKey, Sealed};
 use std::alloc::Global;
 use std::marker::PhantomData;
 

@@ -12,9 +12,10 @@ ghost use Rattle.dav_shared.specs.Waits.{waiting};
 use crate::Book;
 use crate::booked::BookedDots;
 use crate::waiting::Waiting;
-use dav_cache::{Cache, DuKey, FoldedPath, Sealed, dir_key, is_starved, name_key};
+use dav_cache::{Cache, is_starved};
 use dav_core::{Disk, DiskError, FileTime, FsPath, Handle, Kind, Meta, OpenOptions};
 use dav_io::{Moment, NoMemory, Text};
+use dav_memory::{DuKey, FoldedPath, Sealed, dir_key, name_key};
 use std::alloc::Global;
 use std::sync::{Mutex, Wait};
 

@@ -11,9 +11,10 @@ ghost use Rattle.dav_shared.specs.Waits.{WaitsThen, listing_of, lists, waiting};
 
 use crate::waiting::Waiting;
 use crate::{Book, SharedCache};
-use dav_cache::{DuKey, Names, Remember, Sealed, dir_key};
+use dav_cache::Names;
 use dav_core::{Disk, FileTime, FsPath, Handle, Meta};
 use dav_io::{Moment, NoMemory, Text};
+use dav_memory::{DuKey, Remember, Sealed, dir_key};
 use std::alloc::Global;
 use std::sync::Wait;
 

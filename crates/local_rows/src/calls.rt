@@ -229,7 +229,7 @@ fn create_defaults(alloc: Global, line: &mut Line, store: &mut Store) {
 /// Makes the call of a part.
 pub fn call(alloc: Global, line: &mut Line, store: &mut Store, part: &str) {
     match word(part, 0) {
-        "asked" => tell_asked(line, DavFileSystem::disk(store)),
+        "asked" => tell_asked(line, LocalFs::disk(store)),
         "defaults" => create_defaults(alloc, line, store),
         "kept" => tell_kept(line, store.memory()),
         "now" => set_now(line, store, word(part, 1)),

@@ -12,8 +12,10 @@
 //!                                may stand before it
 //!     meet COUNT PATH SCENES     so many times over new caches: the first session is played by itself, and then all
 //!                                others, each over a disk that waits, at its first look at the path, until the disks
-//!                                of all others were looked at there. Of each of these it is told whether it was
-//!                                looked at there and all came, and then how many times told the same.
+//!                                of all others were looked at there. With `open:` before the path it waits at its
+//!                                first opening there. Of each of these it is told whether it came there and all
+//!                                others too, and then how many times told the same. Where they don't meet, that is
+//!                                played once.
 //!     twice SCENES               once more over new caches, which another thread purges all the time: it is told whether
 //!                                all answers were the same. Each scene is to be `uncounted`.
 //!     host FOLDER SCENES         each over this folder of the machine; nothing is told of calls

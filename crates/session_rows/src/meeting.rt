@@ -1,4 +1,4 @@
-//! Disks that meet: each waits at its first look at a path until all of them were looked at there.
+//! Disks that meet: each waits at its first look at a path, or its first opening there, until all of them came there.
 ghost use Rattle.std.specs.Prelude.{◌≡◌, refl};
 ghost use Rattle.dav_core.specs.Disk.{Closes, FileMetas, LinkMetas, Metas, Opens, Reads, Seeks, Turns};
 ghost use Rattle.dav_core.specs.Listing.{EndsListing, Lists, ListsOn};
@@ -12,28 +12,38 @@ use std::alloc::Global;
 use std::sync::atomic::{AtomicU64, Ordering};
 use std::thread::yield_now;
 
-// How often a disk looks for the others before it goes on without them.
-const TURNS: u64 = 20_000_000;
+// How often a disk looks for the others before it goes on without them. It is about a second where nothing else runs.
+const TURNS: u64 = 1_000_000;
 
-/// Where disks wait for each other: the path, how many of them were looked at there, and how many there are.
+/// At which of its calls a disk waits.
+#[derive(Clone, Copy, PartialEq, Eq)]
+pub enum Call {
+    Look,
+    Opening,
+}
+
+/// Where disks wait for each other: the call and its path, how many of them came there, and how many there are.
 #[derive(Drop)]
 pub struct Meeting {
+    call: Call,
     path: FsPath,
     here: AtomicU64,
     all: u64,
 }
 
 impl Meeting {
-    /// Of so many disks, none of which was looked at.
-    pub fn new(path: FsPath, all: u64) -> Self {
+    /// Of so many disks, none of which came.
+    pub fn new(call: Call, path: FsPath, all: u64) -> Self {
         Meeting {
+            call,
             path,
             here: AtomicU64::new(0),
             all,
         }
     }
 
-    // Counts a disk, and waits for the others. It answers whether all came.
+    // Counts a disk, and waits for the others. It answers whether all came. Where they didn't, those that come later
+    // don't wait.
     fn come(&self) -> bool {
         self.here.fetch_add(1, Ordering::SeqCst);
         for _ in 0..TURNS {
@@ -42,22 +52,23 @@ impl Meeting {
             }
             yield_now();
         }
+        self.here.fetch_add(self.all, Ordering::SeqCst);
         false
     }
 }
 
-/// A disk over another. At its first look at the path of its meeting it waits until all disks of the meeting were looked
-/// at there. Of its world it tells nothing.
+/// A disk over another. At the first call of its meeting it waits until all disks of the meeting came there. Of its world
+/// it tells nothing.
 #[derive(Drop)]
 pub struct MeetingDisk<'a, D> {
     meeting: &'a Meeting,
     disk: D,
-    // Whether all came, once it was looked at.
+    // Whether all came, once it did.
     met: Option<bool>,
 }
 
 impl<'a, D> MeetingDisk<'a, D> {
-    /// It wasn't looked at.
+    /// It didn't come yet.
     pub fn new(meeting: &'a Meeting, disk: D) -> Self {
         MeetingDisk {
             meeting,
@@ -71,16 +82,16 @@ impl<'a, D> MeetingDisk<'a, D> {
         &self.disk
     }
 
-    /// Whether it was looked at there, and all others were by then.
+    /// Whether it came, and all others too.
     pub fn has_met(&self) -> bool {
         self.met == Some(true)
     }
 
-    // Waits for the others at the first look at the path.
-    fn wait(&mut self, path: &FsPath)
+    // Waits for the others at the first such call at the path.
+    fn wait(&mut self, call: Call, path: &FsPath)
         ensures { self.new.disk ≡ self.old.disk }
     {
-        if self.met.is_none() && *path == self.meeting.path {
+        if self.met.is_none() && call == self.meeting.call && *path == self.meeting.path {
             self.met = Some(self.meeting.come());
         }
     }
@@ -91,7 +102,7 @@ impl<'a, D: Disk> Disk for MeetingDisk<'a, D> {
 
     #[tactic(auto, using(crate::proofs::Untold::untold_metas))]
     fn meta(&mut self, path: &FsPath) -> Result<Meta, DiskError> {
-        self.wait(path);
+        self.wait(Call::Look, path);
         self.disk.meta(path)
     }
 
@@ -102,6 +113,7 @@ impl<'a, D: Disk> Disk for MeetingDisk<'a, D> {
 
     #[tactic(auto, using(crate::proofs::Untold::untold_opens))]
     fn open(&mut self, path: &FsPath, how: OpenOptions, public: bool) -> Result<Handle, DiskError> {
+        self.wait(Call::Opening, path);
         self.disk.open(path, how, public)
     }
 

@@ -1,5 +1,7 @@
 use Rattle.std.proofs.Common.{◌≡◌, ◌≤◌, ◌∷◌, [], ◌++◌, length, sym, ap, subst, ◌∙◌, append_assoc}
-use Rattle.dav_memory.specs.Entries.{Dots, DuKey, DuEntry}
+use Rattle.dav_memory.specs.Entries.{Dots}
+use Rattle.dav_memory.specs.declared.key.DuKey.{DuKey}
+use Rattle.dav_memory.specs.declared.key.DuEntry.{DuEntry}
 use Rattle.lru.specs.LruCache.{LruCache}
 use Rattle.dav_cache.proofs.DotLists.{puts-back}
 use Rattle.dav_cache.proofs.du_cache.put_back.Goals as goal

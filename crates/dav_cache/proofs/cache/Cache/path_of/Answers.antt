@@ -1,5 +1,5 @@
 use Rattle.std.proofs.Common.{Some, option_map, ap, ◌∙◌}
-use Rattle.dav_memory.specs.Entries.{PathEntry}
+use Rattle.dav_memory.specs.declared.entry.PathEntry.{PathEntry}
 use Rattle.dav_cache.proofs.Probes.{looked-folds}
 use Rattle.dav_cache.proofs.cache.Cache.path_of.Goals as goal
 

@@ -1,5 +1,6 @@
 use Rattle.std.proofs.Common.{◌+◌, arith, sym, subst}
-use Rattle.dav_memory.specs.Entries.{DuKey, Dots, AreCounted, without, some_put, same_key, Listed}
+use Rattle.dav_memory.specs.Entries.{Dots, AreCounted, without, some_put, same_key, Listed}
+use Rattle.dav_memory.specs.declared.key.DuKey.{DuKey}
 use Rattle.dav_cache.proofs.DotLists.{at_dir, counted-seal, sealed-short, sealed-all}
 use Rattle.dav_cache.proofs.du_cache.DuCache.seal_within.Goals as goal
 
