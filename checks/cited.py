@@ -17,6 +17,10 @@ SELF = "checks/cited.py"
 
 # Words of other programs, of the machine and of the Rust crates, which nothing here bears.
 OF_OTHERS = set("""
+    Rc RRULE
+    arrayvec as_rel_ospath jiff smallvec to_lowercase xmltree MemFs MemLs
+    fsync getdents64 openat pread64 stat_at statx writev LimitFSIZE
+    basic copymove litmus logrotate pip Packages Release
 """.split())
 
 PAGE = re.compile(r"README\.md|(?:docs|bench)/.*\.md")
