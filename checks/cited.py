@@ -17,8 +17,7 @@ SELF = "checks/cited.py"
 
 # Words of other programs, of the machine and of the Rust crates, which nothing here bears.
 OF_OTHERS = set("""
-    Rc RRULE
-    arrayvec as_rel_ospath jiff smallvec to_lowercase xmltree MemFs MemLs
+    RRULE arrayvec as_rel_ospath jiff smallvec to_lowercase xmltree MemFs MemLs
     fsync getdents64 openat pread64 stat_at statx writev LimitFSIZE
     basic copymove litmus logrotate pip Packages Release
 """.split())
@@ -48,7 +47,7 @@ def borne_by(paths):
         borne.add(path)
         for part in path.split("/"):
             borne |= {part, os.path.splitext(part)[0]}
-        if path != SELF and not PAGE.fullmatch(path):
+        if path != SELF and not path.endswith(".md"):
             borne |= set(WORD.findall(text_of(path)))
     return borne
 
