@@ -1,16 +1,17 @@
 -- No more requests are made than a tree has rows to show, and one for the root.
-use Rattle.std.proofs.Common.{◌≡◌, inl, inr, ◌<◌, ◌≤◌, ◌+◌, ◌==◌, ◌||◌, ℕ, suc, List, [], ◌∷◌, ◌++◌, length, map, Bool, true, false, not, refl, sym, ap, subst, ◌∙◌, arith}
+use Rattle.std.proofs.Common.{◌≡◌, inl, inr, ◌<◌, ◌≤◌, ◌+◌, ◌==◌, ◌&&◌, ℕ, suc, List, [], ◌∷◌, ◌++◌, length, map, Bool, true, false, not, take, refl, sym, ap, subst, ◌∙◌, arith, true≢false}
 use Rattle.std.specs.List.{list_any}
-use Rattle.std.proofs.lemmas.Bool.{and_from}
+use Rattle.std.proofs.lemmas.Bool.{and_from, or_parts}
 use Rattle.std.proofs.lemmas.Bool.Decides.{nat_tests}
-use Rattle.std.proofs.lemmas.List.{length-append, length-map}
+use Rattle.std.proofs.lemmas.List.{length-append, length-map, take_all}
 use Rattle.dav_core.specs.declared.tree.Kind.{Kind}
 use Rattle.dav_core.specs.declared.tree.Kind.TheVariants.{Dir, File, Link}
 use Rattle.dav_core.specs.declared.tree.Row.{Row}
-use Rattle.dav_core.specs.Path.{Names}
+use Rattle.dav_core.specs.Path.{Names, is_front}
 use Rattle.dav_core.specs.Tree.{is_dir, is_link, look}
 use Rattle.dav_core.specs.World.{World}
 use Rattle.dav_core.proofs.Elements.{in_either}
+use Rattle.dav_core.proofs.Paths.{names_equal}
 use Rattle.dav_fetch.specs.declared.copied.Kept.{Kept}
 use Rattle.dav_fetch.specs.Copy.{IsOf}
 use Rattle.dav_fetch.specs.Fetching.{Files}
@@ -99,15 +100,17 @@ file_allowed w read way paths old visits got left path more made most walk none 
 
 -- ---- no links
 
-pub no_link : (rows : List Row) (row : Row) → list_any (λ r. is_link r.kind) rows ≡ false → IsOf row rows → is_link row.kind ≡ false
-no_link [] row e is = absurd is
-no_link (r ∷ rows) row e (inl same) = ap (λ (x : Row). is_link x.kind) same ∙ first (is_link r.kind) (list_any (λ x. is_link x.kind) rows) e
+pub no_link : (rows : List Row) (path : Names) (row : Row) → list_any (λ r. is_link r.kind && is_front r.path path) rows ≡ false → IsOf row rows → row.path ≡ path → is_link row.kind ≡ false
+no_link [] path row e is named = absurd is
+no_link (r ∷ rows) path row e (inl same) named =
+    ap (λ (x : Row). is_link x.kind) same
+    ∙ alone (is_link r.kind) (is_front r.path path) (front_of (ap (λ (x : Row). x.path) (sym same) ∙ named)) (or_parts (is_link r.kind && is_front r.path path) (list_any (λ x. is_link x.kind && is_front x.path path) rows) e).0
   where
-    first : (a b : Bool) → (a || b) ≡ false → a ≡ false
-    first true b f = cc
-    first false b f = refl
-no_link (r ∷ rows) row e (inr more) = no_link rows row (later (is_link r.kind) (list_any (λ x. is_link x.kind) rows) e) more
-  where
-    later : (a b : Bool) → (a || b) ≡ false → b ≡ false
-    later true b f = cc
-    later false b f = f
+    front_of : r.path ≡ path → is_front r.path path ≡ true
+    front_of e = ap (λ p. is_front p path) e ∙ names_equal path (take (length path) path) (sym (take_all (length path) path (omega arith)))
+
+    alone : (a b : Bool) → b ≡ true → (a && b) ≡ false → a ≡ false
+    alone true b on f = absurd (true≢false (sym on ∙ f))
+    alone false b on f = refl
+no_link (r ∷ rows) path row e (inr more) named =
+    no_link rows path row (or_parts (is_link r.kind && is_front r.path path) (list_any (λ x. is_link x.kind && is_front x.path path) rows) e).1 more named

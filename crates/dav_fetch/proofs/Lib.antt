@@ -6,6 +6,7 @@ pub mod BodyRead
 pub mod Children
 pub mod Ways
 pub mod Naming
+pub mod Turned
 pub mod PollBytes
 pub mod PageFound
 pub mod Soundness

@@ -143,7 +143,7 @@ goes_mirror w s t old new all read way [] made most mid rest over walk none told
 goes_mirror w s t old new all read way (dir ∷ due) made most mid rest over walk is told copy goes = absurd goes
 
 -- the count behind the pages
-goes_count : (due : List Names) (way : Way) (made most : ℕ) (old new : Copied) (mid t : PeerState) (rest : List Visit) → Goes due way made most old mid rest (Ok tt) t new → mid.faults ≤ t.faults
+pub goes_count : (due : List Names) (way : Way) (made most : ℕ) (old new : Copied) (mid t : PeerState) (rest : List Visit) → Goes due way made most old mid rest (Ok tt) t new → mid.faults ≤ t.faults
 goes_count [] way made most old new mid t rest (inr un) = absurd (ok_lacks un.lacks)
 goes_count [] way made most old new mid t rest (inl takes) =
     let chain = visits_count mid takes.mid takes.visits takes.chain in

@@ -56,7 +56,7 @@ pub record WalkedOn (w : World) (count : ℕ) (way : Way) : Type 0 where
   pub walk : Walked w read way
   pub many : length read ≡ count
 
-on_pages : (w : World) (s t : PeerState) (visits : List Visit) (way end : Way) (count : ℕ) → IsWorld w → TellsOne w visits → RefusedNothing s.faults t.faults → WholeVisits s visits t
+pub on_pages : (w : World) (s t : PeerState) (visits : List Visit) (way end : Way) (count : ℕ) → IsWorld w → TellsOne w visits → RefusedNothing s.faults t.faults → WholeVisits s visits t
     → Pages way visits end → WalkedOn w count way → WalkedOn w (count + length visits) end
 on_pages w s t [] way end count world told nothing chain same on =
     subst (WalkedOn w (count + 0)) (sym same) (subst (λ n. WalkedOn w n way) (plus_none count) on)

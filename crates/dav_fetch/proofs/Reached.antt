@@ -35,7 +35,7 @@ use Rattle.dav_fetch.proofs.Walks.{IsDirAt, IsOtherAt, Walked}
 use Rattle.dav_fetch.proofs.Ways.{whole_visits}
 
 -- an error other than want of memory
-abbrev IsOther : MirrorError → Type 0
+abbrev pub IsOther : MirrorError → Type 0
 IsOther NoMemory = ⊥
 IsOther PeerFailed = Unit {0}
 IsOther (Refused p status) = Unit {0}
@@ -56,7 +56,7 @@ none_other w (Short p got announced) new never = never tt
 none_other w (Budget m) new never = never tt
 none_other w other new never = never tt
 
-same_count : (s t : PeerState) → t ≡ s → s.faults ≤ t.faults
+pub same_count : (s t : PeerState) → t ≡ s → s.faults ≤ t.faults
 same_count s t e = let f : t.faults ≡ s.faults = ap (λ (x : PeerState). x.faults) e in omega (arith, f)
 
 rose_behind : (a b c : ℕ) → a ≤ b → RefusedNothing a c → Rose b c → ⊥
@@ -139,7 +139,7 @@ at_file_counts (path ∷ more) old got made most e s last t new room other (inr 
     let second = file_ends_counts path asked.worth asked.visit e asked.at t room other asked.ends in
     omega (arith, first, second)
 
-goes_counts : (due : List Names) (way : Way) (made most : ℕ) (old new : Copied) (mid t : PeerState) (rest : List Visit) (e : MirrorError) → t.faults < greatest → IsOther e
+pub goes_counts : (due : List Names) (way : Way) (made most : ℕ) (old new : Copied) (mid t : PeerState) (rest : List Visit) (e : MirrorError) → t.faults < greatest → IsOther e
     → Goes due way made most old mid rest (Err e) t new → mid.faults ≤ t.faults
 goes_counts [] way made most old new mid t rest e room other (inr un) = absurd (other_lacks e other un.lacks)
 goes_counts [] way made most old new mid t rest e room other (inl takes) =
@@ -211,7 +211,7 @@ module _ (w : World) (s t : PeerState) (old new : Copied) (all : List Visit) (ov
 
   -- a file that is shown
   file_row : (path : Names) (at : IsOtherAt w path) → at.row.kind ≡ File
-  file_row path at = other_kind at.row.kind at.kind (no_link w.tree at.row linkless (looked_is w.tree path at.row at.at.there).0)
+  file_row path at = other_kind at.row.kind at.kind (let (of, named) = looked_is w.tree path at.row at.at.there in no_link w.tree path at.row (linkless.shown path at.row at.at) of named)
 
   file_worth : (path : Names) (a m : PeerState) (visit : Visit) (use_is : Use) → IsOtherAt w path → IsToldOf w visit → (visited : Visited a visit m) → RefusedNothing a.faults visited.at.faults
       → IsFileVisit path (kept_at path old.files) visit use_is → (left : List ℕ) × IsWorth left use_is × (IsOver m → visit.came ≡ left)

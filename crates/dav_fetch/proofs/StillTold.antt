@@ -1,23 +1,36 @@
--- A world of which nothing is to change is told at each visit.
-use Rattle.std.proofs.Common.{◌≡◌, inl, inr, ◌+◌, ◌++◌, ℕ, List, [], ◌∷◌, length, Option, None, Some, Result, Ok, Err, refl, sym, ap, subst, ◌∙◌}
-use Rattle.dav_io.specs.Counts.{Rose}
+-- A world of which nothing is to change is told at each visit, where no link is met on the way through what is shown.
+use Rattle.std.proofs.Common.{◌≡◌, inl, inr, ◌⊎◌, ◌<◌, ◌≤◌, ◌+◌, ◌++◌, ℕ, List, [], ◌∷◌, length, Option, None, Some, Result, Ok, Err, true≢false, refl, sym, ap, subst, ◌∙◌, arith}
+use Rattle.dav_io.specs.Counts.{RefusedNothing, Rose, greatest}
 use Rattle.dav_io.proofs.ToldLemmas.{told_after}
+use Rattle.dav_core.specs.DavPath.{WebPath}
 use Rattle.dav_core.specs.Path.{Names}
-use Rattle.dav_core.specs.World.{Holds, SameBesidesOpens, World, bytes_or_none, is_numbered}
+use Rattle.dav_core.specs.Tree.{is_dir}
+use Rattle.dav_core.specs.World.{Holds, IsWorld, SameBesidesOpens, World, bytes_or_none, is_numbered}
+use Rattle.dav_core.proofs.Rows.{tree_parts}
 use Rattle.dav_core.proofs.UnchangedLemmas.{same_besides_then}
 use Rattle.dav_fetch.specs.declared.copied.Copied.{Copied}
 use Rattle.dav_fetch.specs.declared.copied.Kept.{Kept}
 use Rattle.dav_fetch.specs.declared.error.MirrorError.{MirrorError}
-use Rattle.dav_fetch.specs.Fetching.{AtFile, AtPage, Fetched, FilesEnd, Goes, Visited, Visits, visits_of}
-use Rattle.dav_fetch.specs.Mirroring.{ShowsSame, TellsOne, TellsStill}
-use Rattle.dav_fetch.specs.Peer.{Came, PeerState, RepliesIn, Seen, StaysStill}
-use Rattle.dav_fetch.specs.Walk.{Visit, Way}
-use Rattle.dav_fetch.proofs.Quiet.{IsToldOf}
+use Rattle.dav_fetch.specs.declared.error.MirrorError.TheVariants.{Peer as PeerFailed, Refused, NotAPage, BadReply, Short, TooLong, Budget, NoMemory}
+use Rattle.dav_fetch.specs.Asking.{dir_path, file_path}
+use Rattle.dav_fetch.specs.Copy.{IsOf}
+use Rattle.dav_fetch.specs.Fetching.{AtFile, AtPage, Fetched, FileEnds, Files, FilesEnd, Goes, NotAsked, Visited, Visits, WholeVisits, visits_of}
+use Rattle.dav_fetch.specs.Judging.{Use, gives, keeps, refuses, spoils}
+use Rattle.dav_fetch.specs.Mirroring.{IsLinkless, ShowsSame, TellsOne, TellsStill}
+use Rattle.dav_fetch.specs.Peer.{Came, MeetsNone, PeerState, RepliesIn, Seen, StaysStill}
+use Rattle.dav_fetch.specs.Walk.{Pages, Visit, Way, start, with_all}
+use Rattle.dav_fetch.proofs.Counted.{files_left}
+use Rattle.dav_fetch.proofs.Mirrored.{goes_count}
+use Rattle.dav_fetch.proofs.Orders.{of_append}
+use Rattle.dav_fetch.proofs.PagesWalked.{WalkedOn, on_pages, pages_walked}
+use Rattle.dav_fetch.proofs.Quiet.{IsToldOf, quiet_first, quiet_rest, visit_counts, visits_count}
+use Rattle.dav_fetch.proofs.Reached.{IsOther, goes_counts, same_count}
+use Rattle.dav_fetch.proofs.Walks.{IsDirAt, IsOtherAt, Walked, at_start}
 use Rattle.dav_fetch.proofs.Ways.{whole_visits}
 
-still_then : (w : World) (s t : PeerState) → StaysStill s t → TellsStill w s → TellsStill w t
-still_then w s t stays still =
-    let (v, told, same) = stays still.now still.told (still.same.script ∙ still.script) in
+still_then : (w : World) (path : WebPath) (s t : PeerState) → StaysStill path s t → MeetsNone w.tree path → TellsStill w s → TellsStill w t
+still_then w path s t stays none still =
+    let (v, told, same) = stays still.now still.told (still.same.script ∙ still.script) (subst (λ tree. MeetsNone tree path) (sym still.same.tree) none) in
     record { now = v; told = told; same = same_besides_then w still.now.world v.world still.same same; script = still.script }
 
 -- Two worlds that are the same as a third but for what is open there show the same.
@@ -29,11 +42,11 @@ meet w u n a b = record {
       ap bytes_or_none (sym (b.files number held).1 ∙ (a.files number held).1);
 }
 
-visit_told : (w : World) (s t : PeerState) (visit : Visit) → TellsStill w s → Visited s visit t → IsToldOf w visit × TellsStill w t
-visit_told w s t visit still visited = (by visit.world refl visited.is, after)
+visit_told : (w : World) (s t : PeerState) (visit : Visit) → TellsStill w s → MeetsNone w.tree visit.path → Visited s visit t → IsToldOf w visit × TellsStill w t
+visit_told w s t visit still none visited = (by visit.world refl visited.is, after)
   where
     at : TellsStill w visited.at
-    at = still_then w s visited.at visited.stays still
+    at = still_then w visit.path s visited.at visited.stays none still
 
     after : TellsStill w t
     after =
@@ -47,12 +60,15 @@ visit_told w s t visit still visited = (by visit.world refl visited.is, after)
         let one : at.now ≡ now = cc in
         (u, e, meet w u now.world (subst (λ (x : Seen). SameBesidesOpens w x.world) one at.same) same)
 
-visits_told : (w : World) (s t : PeerState) (visits : List Visit) → TellsStill w s → Visits s visits t → TellsOne w visits × TellsStill w t
-visits_told w s t [] still same = (tt, subst (TellsStill w) (sym same) still)
-visits_told w s t (v ∷ vs) still (m, visited, chain) =
-    let (first, here) = visit_told w s m v still visited in
-    let (rest, there) = visits_told w m t vs here chain in
-    ((first, rest), there)
+-- ---- what is met
+
+dir_meets : (w : World) (dir : Names) → IsLinkless w → IsDirAt w dir → MeetsNone w.tree (dir_path dir)
+dir_meets w dir linkless at = record { way = linkless.shown dir at.row at.at; members = λ slash. linkless.listed dir at.row at.at (ap is_dir at.kind) }
+
+file_meets : (w : World) (path : Names) → IsLinkless w → IsOtherAt w path → MeetsNone w.tree (file_path path)
+file_meets w path linkless at = record { way = linkless.shown path at.row at.at; members = λ slash. absurd (true≢false (sym slash)) }
+
+-- ---- lists of visits
 
 told_join : (w : World) (a b : List Visit) → TellsOne w a → TellsOne w b → TellsOne w (a ++ b)
 told_join w [] b p q = q
@@ -61,36 +77,125 @@ told_join w (v ∷ a) b p q = (p.0, told_join w a b p.1 q)
 none_told : (w : World) (visits : List Visit) → visits ≡ [] → TellsOne w visits
 none_told w visits e = subst (TellsOne w) (sym e) tt
 
-one_told : (w : World) (s t : PeerState) (visit : Visit) (visits : List Visit) → visits ≡ visit ∷ [] → TellsStill w s → Visited s visit t → TellsOne w visits
-one_told w s t visit visits e still visited = subst (TellsOne w) (sym e) ((visit_told w s t visit still visited).0, tt)
+one_told : (w : World) (s t : PeerState) (visit : Visit) (visits : List Visit) → visits ≡ visit ∷ [] → TellsStill w s → MeetsNone w.tree visit.path → Visited s visit t → TellsOne w visits
+one_told w s t visit visits e still none visited = subst (TellsOne w) (sym e) ((visit_told w s t visit still none visited).0, tt)
 
-at_page_told : (w : World) (dir : Names) (made most : ℕ) (e : MirrorError) (s : PeerState) (last : List Visit) (t : PeerState) → TellsStill w s → AtPage dir made most e s last t → TellsOne w last
-at_page_told w dir made most e s last t still (inl not) = none_told w last not.0
-at_page_told w dir made most e s last t still (inr (visit, m, one, visited, is, ends)) = one_told w s m visit last one still visited
+-- the pages, in the order of finding
+pages_told : (w : World) (s t : PeerState) (visits : List Visit) (way end : Way) (count : ℕ) → IsWorld w → IsLinkless w → TellsStill w s → RefusedNothing s.faults t.faults → WholeVisits s visits t
+    → Pages way visits end → WalkedOn w count way → TellsOne w visits × TellsStill w t
+pages_told w s t [] way end count world linkless still nothing chain same on = (tt, subst (TellsStill w) (sym chain) still)
+pages_told w s t (v ∷ vs) way end count world linkless still nothing (m, visited, over, chain) (dir, rest, found, due, page, more) on =
+    let first = visit_counts s m v visited in
+    let second = visits_count m t vs (whole_visits m t vs chain) in
+    let at = on.walk.dirs dir (subst (IsOf dir) (sym (on.walk.parts ∙ ap (λ z. on.read ++ z) due)) (of_append dir on.read (dir ∷ rest) (inr (inl refl)))) in
+    let (told, here) = visit_told w s m v still (subst (MeetsNone w.tree) (sym page.path) (dir_meets w dir linkless at)) visited in
+    let next = on_pages w s m (v ∷ []) way (with_all dir found (record way { due = rest })) count world (told, tt) (quiet_first s.faults m.faults t.faults first second nothing) (m, visited, over, refl)
+    (dir, rest, found, due, page, refl) on in
+    let (others, there) = pages_told w m t vs (with_all dir found (record way { due = rest })) end (count + length (v ∷ [])) world linkless here (quiet_rest s.faults m.faults t.faults first second nothing) chain more next in
+    ((told, others), there)
 
-at_file_told : (w : World) (left : List Names) (old got : List Kept) (made most : ℕ) (e : MirrorError) (s : PeerState) (last : List Visit) (t : PeerState) (new : List Kept) → TellsStill w s
-    → AtFile left old got made most e s last t new → TellsOne w last
-at_file_told w [] old got made most e s last t new still h = absurd h
-at_file_told w (path ∷ more) old got made most e s last t new still (inl not) = none_told w last not.none
-at_file_told w (path ∷ more) old got made most e s last t new still (inr asked) = one_told w s asked.at asked.visit last asked.one still asked.visited
+-- the files, in the order of paths
+chain_told : (w : World) (old : List Kept) (paths : List Names) (visits : List Visit) (got : List Kept) (left : List Names) (s t : PeerState) → IsLinkless w → TellsStill w s
+    → ((path : Names) → IsOf path paths → IsOtherAt w path) → Files old paths visits got left → Visits s visits t → TellsOne w visits × TellsStill w t
+chain_told w old paths [] got left s t linkless still at took chain = (tt, subst (TellsStill w) (sym chain) still)
+chain_told w old [] (v ∷ vs) got left s t linkless still at took chain = absurd took
+chain_told w old (path ∷ paths) (v ∷ vs) got left s t linkless still at (worth, rest, is, whole, got_is, took) (m, visited, chain) =
+    let (told, here) = visit_told w s m v still (subst (MeetsNone w.tree) (sym is.path_is) (file_meets w path linkless (at path (inl refl)))) visited in
+    let (others, there) = chain_told w old paths vs rest left m t linkless here (λ p o. at p (inr o)) took chain in
+    ((told, others), there)
 
-files_told : (w : World) (left : List Names) (old got : List Kept) (made most : ℕ) (result : Result Unit MirrorError) (s : PeerState) (last : List Visit) (t : PeerState) (new : List Kept) → TellsStill w s
-    → FilesEnd left old got made most result s last t new → TellsOne w last
-files_told w left old got made most (Ok x) s last t new still h = none_told w last h.1
-files_told w left old got made most (Err e) s last t new still h = at_file_told w left old got made most e s last t new still h
+at_page_told : (w : World) (dir : Names) (made most : ℕ) (e : MirrorError) (s : PeerState) (last : List Visit) (t : PeerState) → IsLinkless w → IsDirAt w dir → TellsStill w s
+    → AtPage dir made most e s last t → TellsOne w last
+at_page_told w dir made most e s last t linkless at still (inl not) = none_told w last not.0
+at_page_told w dir made most e s last t linkless at still (inr (visit, m, one, visited, is, ends)) =
+    one_told w s m visit last one still (subst (MeetsNone w.tree) (sym is.path) (dir_meets w dir linkless at)) visited
 
-goes_told : (w : World) (due : List Names) (way : Way) (made most : ℕ) (old : Copied) (s : PeerState) (rest : List Visit) (result : Result Unit MirrorError) (t : PeerState) (new : Copied) → TellsStill w s
-    → Goes due way made most old s rest result t new → TellsOne w rest
-goes_told w [] way made most old s rest result t new still (inr un) = none_told w rest un.none
-goes_told w [] way made most old s rest result t new still (inl takes) =
-    let (visits, there) = visits_told w s takes.mid takes.visits still takes.chain in
+at_file_told : (w : World) (left : List Names) (old got : List Kept) (made most : ℕ) (e : MirrorError) (s : PeerState) (last : List Visit) (t : PeerState) (new : List Kept) → IsLinkless w
+    → ((path : Names) → IsOf path left → IsOtherAt w path) → TellsStill w s → AtFile left old got made most e s last t new → TellsOne w last
+at_file_told w [] old got made most e s last t new linkless at still h = absurd h
+at_file_told w (path ∷ more) old got made most e s last t new linkless at still (inl not) = none_told w last not.none
+at_file_told w (path ∷ more) old got made most e s last t new linkless at still (inr asked) =
+    one_told w s asked.at asked.visit last asked.one still (subst (MeetsNone w.tree) (sym asked.is.path_is) (file_meets w path linkless (at path (inl refl)))) asked.visited
+
+files_told : (w : World) (left : List Names) (old got : List Kept) (made most : ℕ) (result : Result Unit MirrorError) (s : PeerState) (last : List Visit) (t : PeerState) (new : List Kept) → IsLinkless w
+    → ((path : Names) → IsOf path left → IsOtherAt w path) → TellsStill w s → FilesEnd left old got made most result s last t new → TellsOne w last
+files_told w left old got made most (Ok x) s last t new linkless at still h = none_told w last h.1
+files_told w left old got made most (Err e) s last t new linkless at still h = at_file_told w left old got made most e s last t new linkless at still h
+
+goes_told : (w : World) (due : List Names) (read : List Names) (way : Way) (made most : ℕ) (old : Copied) (s : PeerState) (rest : List Visit) (result : Result Unit MirrorError) (t : PeerState) (new : Copied)
+    → IsLinkless w → Walked w read way → way.due ≡ due → TellsStill w s → Goes due way made most old s rest result t new → TellsOne w rest
+goes_told w [] read way made most old s rest result t new linkless walk is still (inr un) = none_told w rest un.none
+goes_told w [] read way made most old s rest result t new linkless walk is still (inl takes) =
+    let at : (path : Names) → IsOf path takes.paths → IsOtherAt w path = λ path o. walk.files path (takes.ordered.from path o) in
+    let (visits, there) = chain_told w old.files takes.paths takes.visits takes.got takes.left s takes.mid linkless still at takes.took takes.chain in
     subst (TellsOne w) (sym takes.parts)
     (told_join w takes.visits takes.last visits
-    (files_told w takes.left old.files takes.got (made + length takes.visits) most result takes.mid takes.last t new.files there takes.ends))
-goes_told w (dir ∷ due) way made most old s rest (Ok x) t new still h = absurd h
-goes_told w (dir ∷ due) way made most old s rest (Err e) t new still h = at_page_told w dir made most e s rest t still h.0
+    (files_told w takes.left old.files takes.got (made + length takes.visits) most result takes.mid takes.last t new.files linkless
+    (λ path o. at path (files_left old.files takes.paths takes.visits takes.got takes.left path takes.took o)) there takes.ends))
+goes_told w (dir ∷ due) read way made most old s rest (Ok x) t new linkless walk is still h = absurd h
+goes_told w (dir ∷ due) read way made most old s rest (Err e) t new linkless walk is still h =
+    at_page_told w dir made most e s rest t linkless (walk.dirs dir (subst (IsOf dir) (sym (walk.parts ∙ ap (λ z. read ++ z) is)) (of_append dir read (dir ∷ due) (inr (inl refl))))) still h.0
 
-pub still_told : (s t : PeerState) (old new : Copied) (most : ℕ) (result : Result Unit MirrorError) (f : Fetched s old most result t new) → (w : World) → TellsStill w s → TellsOne w (visits_of f)
-still_told s t old new most result f w still =
-    let (pages, there) = visits_told w s f.mid f.pages still (whole_visits s f.mid f.pages f.chain) in
-    told_join w f.pages f.rest pages (goes_told w f.way.due f.way (length f.pages) most old f.mid f.rest result t new there f.goes)
+-- ---- counts, where memory was refused
+
+lacking_asked : (path : WebPath) (made most : ℕ) (s t : PeerState) → NotAsked path made most NoMemory s t → s.faults ≤ t.faults
+lacking_asked path made most s t (inl same) = same_count s t same
+lacking_asked path made most s t (inr more) = more.2
+
+lacking_use : (path : Names) (worth : Use) (visit : Visit) (s t : PeerState) → FileEnds path worth visit NoMemory s t → s.faults ≤ t.faults
+lacking_use path (gives f n) visit s t h = h
+lacking_use path keeps visit s t h = h
+lacking_use path refuses visit s t h = h
+lacking_use path spoils visit s t h = h
+
+lacking_page : (dir : Names) (made most : ℕ) (s t : PeerState) (last : List Visit) → AtPage dir made most NoMemory s last t → s.faults ≤ t.faults
+lacking_page dir made most s t last (inl not) = lacking_asked (dir_path dir) made most s t not.1
+lacking_page dir made most s t last (inr (visit, m, one, visited, is, ends)) =
+    let first = visit_counts s m visit visited in
+    let second : m.faults ≤ t.faults = ends in
+    omega (arith, first, second)
+
+lacking_file : (left : List Names) (old got : List Kept) (made most : ℕ) (s t : PeerState) (last : List Visit) (new : List Kept) → AtFile left old got made most NoMemory s last t new → s.faults ≤ t.faults
+lacking_file [] old got made most s t last new h = absurd h
+lacking_file (path ∷ more) old got made most s t last new (inl not) = lacking_asked (file_path path) made most s t not.not
+lacking_file (path ∷ more) old got made most s t last new (inr asked) =
+    let first = visit_counts s asked.at asked.visit asked.visited in
+    let second = lacking_use path asked.worth asked.visit asked.at t asked.ends in
+    omega (arith, first, second)
+
+lacking_goes : (due : List Names) (way : Way) (made most : ℕ) (old new : Copied) (mid t : PeerState) (rest : List Visit) → Goes due way made most old mid rest (Err NoMemory) t new → mid.faults ≤ t.faults
+lacking_goes [] way made most old new mid t rest (inr un) = same_count mid t un.stays
+lacking_goes [] way made most old new mid t rest (inl takes) =
+    let chain = visits_count mid takes.mid takes.visits takes.chain in
+    let ends = lacking_file takes.left old.files takes.got (made + length takes.visits) most takes.mid t takes.last new.files takes.ends in
+    omega (arith, chain, ends)
+lacking_goes (dir ∷ due) way made most old new mid t rest goes = lacking_page dir made most mid t rest goes.0
+
+is_other : (e : MirrorError) → IsOther e ⊎ (e ≡ NoMemory)
+is_other NoMemory = inr refl
+is_other PeerFailed = inl tt
+is_other (Refused p status) = inl tt
+is_other (NotAPage p) = inl tt
+is_other (BadReply p) = inl tt
+is_other (Short p got announced) = inl tt
+is_other (TooLong p) = inl tt
+is_other (Budget m) = inl tt
+
+all_counts : (due : List Names) (way : Way) (made most : ℕ) (old new : Copied) (mid t : PeerState) (rest : List Visit) (result : Result Unit MirrorError) → t.faults < greatest
+    → Goes due way made most old mid rest result t new → mid.faults ≤ t.faults
+all_counts due way made most old new mid t rest (Ok x) room goes = goes_count due way made most old new mid t rest goes
+all_counts due way made most old new mid t rest (Err e) room goes = by (is_other e)
+  where
+    by : IsOther e ⊎ (e ≡ NoMemory) → mid.faults ≤ t.faults
+    by (inl other) = goes_counts due way made most old new mid t rest e room other goes
+    by (inr lacks) = lacking_goes due way made most old new mid t rest (subst (λ x. Goes due way made most old mid rest (Err x) t new) lacks goes)
+
+pub still_told : (s t : PeerState) (old new : Copied) (most : ℕ) (result : Result Unit MirrorError) (f : Fetched s old most result t new) → (w : World) → IsWorld w → IsLinkless w
+    → RefusedNothing s.faults t.faults → TellsStill w s → TellsOne w (visits_of f)
+still_told s t old new most result f w world linkless nothing still =
+    let first = visits_count s f.mid f.pages (whole_visits s f.mid f.pages f.chain) in
+    let second = all_counts f.way.due f.way (length f.pages) most old new f.mid t f.rest result nothing.room f.goes in
+    let quiet = quiet_first s.faults f.mid.faults t.faults first second nothing in
+    let (pages, there) = pages_told w s f.mid f.pages start f.way 0 world linkless still quiet f.chain f.read (record { read = []; walk = at_start w (tree_parts w.tree world.tree); many = refl }) in
+    let on = pages_walked w s f.mid f.pages f.way world pages quiet f.chain f.read in
+    told_join w f.pages f.rest pages (goes_told w f.way.due on.read f.way (length f.pages) most old f.mid f.rest result t new linkless on.walk refl there f.goes)

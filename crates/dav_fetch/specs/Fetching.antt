@@ -14,7 +14,7 @@ use Rattle.dav_fetch.specs.declared.found.Found.{Found}
 use Rattle.dav_fetch.specs.Asking.{awaits, asked_for, dir_path, file_path}
 use Rattle.dav_fetch.specs.Copy.{IsOf, path_cmp}
 use Rattle.dav_fetch.specs.Judging.{Use, gives, keeps, refuses, spoils, use_of, grown}
-use Rattle.dav_fetch.specs.Peer.{Calls, CountsFailure, PeerState, RepliesIn, StaysStill, links_most}
+use Rattle.dav_fetch.specs.Peer.{Calls, CountsFailure, PeerState, RepliesIn, StaysStill, TurnsOnce, links_most}
 use Rattle.dav_fetch.specs.Reading.{IsOver, ReadOn}
 use Rattle.dav_fetch.specs.Walk.{Visit, IsPageOf, Way, Pages, page_most, start}
 
@@ -24,7 +24,8 @@ pub record Visited (s : PeerState) (visit : Visit) (t : PeerState) : Type 0 wher
   pub at : PeerState
   pub counts : s.faults ≤ at.faults
   pub is : RepliesIn visit.world visit.path visit.asked (Rose s.faults at.faults) visit.got at.told
-  pub stays : StaysStill s at
+  pub stays : StaysStill visit.path s at
+  pub turns : TurnsOnce s at
   pub read : ReadOn at visit.came t
 
 abbrev pub Visits : PeerState → List Visit → PeerState → Type 0

@@ -14,3 +14,4 @@ pub mod Taking
 pub mod Gathering
 pub mod Ready
 pub mod Naming
+pub mod Turning

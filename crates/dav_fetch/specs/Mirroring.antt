@@ -1,12 +1,13 @@
 -- What a fetched copy is worth, over a peer that tells.
 use Rattle.std.specs.Prelude.{◌≡◌, ◌==◌, ◌&&◌, ◌<◌, ◌≤◌, ◌⊎◌, ◌↔◌, ◌^◌, ℕ, List, [], ◌∷◌, length, Bool, true, false, not, is_some, Some, Result, Ok, Err}
-use Rattle.std.specs.List.{AllByRecursion, filter, flat_map, list_all, list_any}
+use Rattle.std.specs.List.{AllByRecursion, filter, flat_map, list_all}
 use Rattle.dav_io.specs.Counts.{RefusedNothing}
 use Rattle.dav_core.specs.declared.tree.Row.{Row}
 use Rattle.dav_core.specs.Members.{members}
 use Rattle.dav_core.specs.Path.{Names}
-use Rattle.dav_core.specs.Tree.{is_dir, is_file, is_link, look}
+use Rattle.dav_core.specs.Tree.{is_dir, is_file, is_linked, look}
 use Rattle.dav_core.specs.World.{IsWorld, SameBesidesOpens, World, bytes_of, is_numbered}
+use Rattle.dav_model.specs.Finding.{is_clear}
 use Rattle.dav_page.specs.Index.{IsIndex}
 use Rattle.dav_page.specs.Listed.{AreRows, begins_with_dot}
 use Rattle.dav_fetch.specs.declared.copied.Copied.{Copied}
@@ -121,9 +122,11 @@ is_visible_row row = not (length row.path == 0) && is_shown row.path
 abbrev pub visible_rows : World → List Row
 visible_rows w = filter is_visible_row w.tree
 
--- No symbolic link stands in the tree.
-abbrev pub IsLinkless : World → Type 0
-IsLinkless w = list_any (λ row. is_link row.kind) w.tree ≡ false
+-- No symbolic link is met on the way through what is shown: none stands on the way to it or at it, nor in a directory that
+-- is shown, whatever the link's name. Below a directory that isn't shown there may be links.
+pub record IsLinkless (w : World) : Type 0 where
+  pub shown : (path : Names) (row : Row) → IsShownAt w path row → is_linked w.tree path ≡ false
+  pub listed : (dir : Names) (row : Row) → IsShownAt w dir row → is_dir row.kind ≡ true → is_clear w.tree dir ≡ true
 
 -- What is shown is within the limits of a fetch: the links that are asked for, the pages, and the lengths of files.
 pub record IsWithinLimits (w : World) : Type 0 where

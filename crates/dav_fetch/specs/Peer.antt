@@ -7,13 +7,16 @@ use Rattle.dav_io.specs.Counts.{Rose}
 use Rattle.dav_io.specs.Told.{Both}
 use Rattle.dav_io.specs.declared.fields.Field.{Field}
 use Rattle.dav_core.specs.declared.method.DavMethod.TheVariants.{Get}
+use Rattle.dav_core.specs.Changes.{turned}
 use Rattle.dav_core.specs.DavPath.{IsPath, WebPath}
+use Rattle.dav_core.specs.declared.tree.Row.{Row}
+use Rattle.dav_core.specs.Tree.{is_linked}
 use Rattle.dav_core.specs.World.{World, SameBesidesOpens, bytes_of}
 use Rattle.dav_model.specs.declared.settings.Settings.{Settings}
 use Rattle.dav_model.specs.Bodies.{Part, text, slice}
 use Rattle.dav_model.specs.Conditions.{Fields, values_of}
 use Rattle.dav_model.specs.Due.{IsRight, query}
-use Rattle.dav_model.specs.Finding.{shown_in}
+use Rattle.dav_model.specs.Finding.{is_clear, shown_in}
 use Rattle.dav_model.specs.Head.{Reply}
 use Rattle.dav_model.specs.Rules.{Rules, plain_rules}
 use Rattle.dav_model.specs.Unset.{nothing_set}
@@ -94,14 +97,27 @@ pub record IsAskable (path : WebPath) (asked : List Field) : Type 0 where
   pub kept : ForSome old IsKept
   pub fields : asked ≡ asked_for (awaits old)
 
--- Where it told a world with no change to come, it tells the same one.
-abbrev pub StaysStill : PeerState → PeerState → Type 0
-StaysStill s t = (v : Seen) → s.told ≡ Some v → v.world.script ≡ [] → (w : Seen) × (t.told ≡ Some w) × SameBesidesOpens v.world w.world
+-- No link is met by a GET of this path: none stands on the way to it or at it, nor in the directory whose page it asks
+-- for.
+pub record MeetsNone (tree : List Row) (path : WebPath) : Type 0 where
+  pub way : is_linked tree path.names ≡ false
+  pub members : path.slash ≡ true → is_clear tree path.names ≡ true
+
+-- Where it told a world with no change to come, in which no link is met at this path, it tells the same one.
+abbrev pub StaysStill : WebPath → PeerState → PeerState → Type 0
+StaysStill path s t = (v : Seen) → s.told ≡ Some v → v.world.script ≡ [] → MeetsNone v.world.tree path
+    → (w : Seen) × (t.told ≡ Some w) × SameBesidesOpens v.world w.world
+
+-- Where it tells a world before and after, the outside made one batch of its changes between.
+abbrev pub TurnsOnce : PeerState → PeerState → Type 0
+TurnsOnce s t = (v w : Seen) → s.told ≡ Some v → t.told ≡ Some w
+    → (u : World) × SameBesidesOpens v.world u × SameBesidesOpens (turned u) w.world
 
 pub record Gets (s : PeerState) (path : WebPath) (asked : List Field) (result : Result Got PeerFault) (t : PeerState) : Type 0 where
   pub counts : s.faults ≤ t.faults
   pub is : IsGot path asked s result t
-  pub stays : IsAskable path asked → OnOk result (StaysStill s t)
+  pub stays : IsAskable path asked → OnOk result (StaysStill path s t)
+  pub turns : OnOk result (TurnsOnce s t)
 
 -- The world stays. These bytes of the body came; none come only at its end.
 abbrev pub Came : List ℕ → Seen → Seen → Type 0

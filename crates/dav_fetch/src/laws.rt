@@ -3,8 +3,8 @@ ghost use Rattle.std.specs.Prelude.{◌≡◌, ◌<◌, ◌++◌, ◌∷◌, ℕ
 ghost use Rattle.std.specs.List.{AllByRecursion, AllZip};
 ghost use Rattle.dav_core.specs.declared.member.Member.{Member as Shown};
 ghost use Rattle.dav_core.specs.Path.{Names, is_plain};
-ghost use Rattle.dav_core.specs.World.{World};
-ghost use Rattle.dav_io.specs.Counts.{Rose};
+ghost use Rattle.dav_core.specs.World.{IsWorld, World};
+ghost use Rattle.dav_io.specs.Counts.{RefusedNothing, Rose};
 ghost use Rattle.dav_page.specs.declared.row.PageRow.{PageRow as Line};
 ghost use Rattle.dav_page.specs.Listed.{IsRowOf};
 ghost use Rattle.dav_model.specs.Bodies.{Gives, Part};
@@ -18,7 +18,8 @@ ghost use Rattle.dav_fetch.specs.Copy.{IsOfWorld};
 ghost use Rattle.dav_fetch.specs.Fetching.{Fetched, visits_of};
 ghost use Rattle.dav_fetch.specs.Judging.{gives, grown, use_of};
 ghost use Rattle.dav_fetch.specs.Mirroring.{AllTold, AreKept, AreShort, IsGood, IsLinkless, IsMet, IsMirror, IsOverOne, IsSound, IsWithinLimits, MetIn, Mirrors, TellsOne, TellsStill, visible_rows};
-ghost use Rattle.dav_fetch.specs.Peer.{PeerState, RepliesOf, body_in};
+ghost use Rattle.dav_fetch.specs.Peer.{PeerState, RepliesOf, Seen as Now, body_in};
+ghost use Rattle.dav_fetch.specs.Turning.{AreTurned};
 ghost use Rattle.dav_fetch.specs.Walk.{IsFound, IsMember};
 
 /// What comes of a file, by the answer to the request that what is kept of it asks for, is a front of what its path has
@@ -59,18 +60,27 @@ pub fn a_still_tree_is_mirrored()
         → IsOverOne w s old (visits_of f) t → IsMirror w new }
 {}
 
-/// Reached: where no link stands in that tree, what is shown is within the limits, and a request more is allowed than there
-/// are visible rows, it comes to that, or memory is refused.
+/// Reached: where no link is met on the way through what is shown of that tree, what is shown is within the limits, and a
+/// request more is allowed than there are visible rows, it comes to that, or memory is refused.
 pub fn a_still_tree_is_fetched()
     ensures { (s t : PeerState) (old new : Copy) (most : ℕ) (result : Result Unit Error) (f : Fetched s old most result t new)
         → (w : World) → IsOverOne w s old (visits_of f) t → IsLinkless w → IsWithinLimits w
         → length (visible_rows w) < most → Mirrors w result new }
 {}
 
-/// A peer that tells a world of which nothing is to change tells it at each visit of a fetch.
+/// A peer that tells a world of which nothing is to change tells it at each visit of a fetch, where it refused nothing
+/// and no link is met on the way through what is shown.
 pub fn a_still_peer_tells_one_world()
     ensures { (s t : PeerState) (old new : Copy) (most : ℕ) (result : Result Unit Error) (f : Fetched s old most result t new)
-        → (w : World) → TellsStill w s → TellsOne w (visits_of f) }
+        → (w : World) → IsWorld w → IsLinkless w → RefusedNothing s.faults t.faults → TellsStill w s
+        → TellsOne w (visits_of f) }
+{}
+
+/// Where a peer told at each visit, the worlds that were met are those to which the outside's changes lead: with each
+/// request that was answered one batch more.
+pub fn worlds_are_met_one_after_the_other()
+    ensures { (s t : PeerState) (old new : Copy) (most : ℕ) (result : Result Unit Error) (f : Fetched s old most result t new)
+        → AllTold (visits_of f) → (now : Now) → s.told ≡ Some now → AreTurned now.world 0 (visits_of f) }
 {}
 
 /// A tree has one mirror at most.

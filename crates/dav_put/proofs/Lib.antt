@@ -5,3 +5,4 @@ mod TokensTried
 mod Performed
 mod Failing
 mod Numbers
+mod WordsSaid

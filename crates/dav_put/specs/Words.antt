@@ -1,7 +1,6 @@
 -- What the words behind the program's name ask for.
 use Rattle.std.specs.Prelude.{◌≡◌, ◌==◌, ◌&&◌, ℕ, nat_lt, List, [], ◌∷◌, length, Bool, Option, None, Some, Result, Ok, Err, codes, String, string_bytes, cond, if◌then◌else◌}
 use Rattle.std.specs.List.{list_any}
-use Rattle.std.specs.Option.{option_and_then}
 use Rattle.std.specs.Str.{all_ascii_digits, bytes_eq}
 use Rattle.std.specs.Str.Parse.{digits_value, without_leading_plus}
 use Rattle.dav_core.specs.declared.parse_error.ParseError.{ParseError}

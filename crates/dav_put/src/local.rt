@@ -75,7 +75,7 @@ pub fn perform_local<D: Disk, R: Remember, I: Source>(
 /// Does the same over a folder, the root of a disk, whose names are found as they are written, and answers how it ends,
 /// with the disk. What it makes is open to everybody, as far as the machine lets it. Nothing is asked of the disk and of
 /// the memory for that: where the disk tells its world, all that `perform_local` says of it holds.
-pub fn put<D: Disk, R: Remember, I: Source>(
+pub fn put<D: Disk, R: Remember + Drop, I: Source>(
     alloc: Global,
     disk: D,
     memory: R,

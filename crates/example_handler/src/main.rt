@@ -48,18 +48,28 @@ fn answered(handler: &mut Handler, request: Request<OneBody>) -> Answered<LocalF
     handler.handle(request, Moment(0))
 }
 
-// All bytes of a body, which is polled with the disk of its store. One that broke off has its file open still, and ends here.
+// Ends a body. Where it wasn't read to its end, its file is open still, and closed here.
+fn end(disk: &mut MemDisk, body: Body<GetBody<LocalFsFile>>)
+    requires { MayPoll (λ b d. IsHeld local_file (mem_state d) b) body.inner disk.old }
+{
+    let Body { inner } = body;
+    match inner {
+        BodyType::AsyncStream(stream) => stream.into_steps().close(disk),
+        BodyType::Bytes(_) | BodyType::Empty => {}
+    }
+}
+
+// All bytes of a body, which is polled with the disk of its store until it ends.
 fn gathered(
     alloc: Global,
     disk: &mut MemDisk,
-    mut body: Body<GetBody<LocalFsFile>>,
+    body: Body<GetBody<LocalFsFile>>,
 ) -> Result<Octets, BodyFault>
     requires { MayPoll (λ b d. IsHeld local_file (mem_state d) b) body.inner disk.old }
 {
+    let mut body = body;
     let all = collect(alloc, &mut body, disk);
-    if let BodyType::AsyncStream(stream) = body.inner {
-        stream.into_steps().close(disk);
-    }
+    end(disk, body);
     all
 }
 

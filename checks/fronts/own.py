@@ -1,0 +1,338 @@
+"""What `./serve` is asked, by sockets and by its words."""
+import contextlib
+import os
+import re
+import shutil
+import signal
+import socket
+import subprocess
+import sys
+import time
+
+from fronts.clients import LISTENS, OPEN, TEN, Door, gets_ten, head, sockets, talk, try_burst, try_crowd, try_listening, try_slow
+from fronts.work import TOP, Served, free_port, listens, within
+
+# The bytes of the long file: more than the machine holds of an answer that nobody takes.
+LONG = 32 << 20
+
+
+def folder_of(work):
+    """A folder with a short file, one of 20 KB, and a long one of zeros."""
+    folder = work.at / "tmp/folder"
+    if not folder.exists():
+        folder.mkdir()
+        (folder / "20k").write_bytes(b"x" * 20480)
+        (folder / "ten.txt").write_bytes(TEN)
+        with open(folder / "long", "wb") as it:
+            it.truncate(LONG)
+    return folder
+
+
+def time_of(port, path, size):
+    """What a GET on a kept connection takes, in the fastest quarter of them: what is held back comes late in nearly all, and
+    another load of the machine in a few."""
+    times = []
+    with socket.create_connection(("127.0.0.1", int(port)), 10) as kept:
+        for _ in range(20):
+            began, got = time.monotonic(), 0
+            kept.sendall(head(path))
+            while got < size:
+                got += len(kept.recv(1 << 20))
+            times.append(time.monotonic() - began)
+    return sorted(times)[5]
+
+
+def try_answers(work, tally):
+    """No answer of ./serve comes late, is lost or is cut."""
+    folder = folder_of(work)
+    with Served(work, folder) as it:
+        took = time_of(it.port, "/20k", 20480)
+        tally("a GET of 20 KB on a kept connection takes under 20 ms", took < 0.02, f"{took * 1000:.1f} ms")
+        right = sum(talk(it.port, b"NONE\r\n\r\n").startswith(b"HTTP/1.1 400") for _ in range(50))
+        tally("50 bad requests get 50 answers 400", right == 50, right)
+        large = b"PUT /x HTTP/1.1\r\nContent-Length: 1073741825\r\n\r\n" + b"x" * 4096
+        right = sum(talk(it.port, large).startswith(b"HTTP/1.1 413") for _ in range(20))
+        tally("20 bodies that are too large get 20 answers 413", right == 20, right)
+        with socket.create_connection(("127.0.0.1", int(it.port)), 10) as slow:
+            slow.sendall(head("/long", "Connection: close"))
+            slow.shutdown(socket.SHUT_WR)
+            time.sleep(2)
+            got = taken(slow)
+        tally("a reader that half-closes and sleeps gets all bytes", got > LONG, got)
+        tally("what it says isn't about a client alone", not re.search("reading the requests|writing the answers", it.said()))
+
+
+def taken(it):
+    """How many bytes a connection gives until it ends."""
+    got = 0
+    with contextlib.suppress(ConnectionError):
+        while more := it.recv(1 << 20):
+            got += len(more)
+    return got
+
+
+def try_silence(work, tally):
+    """Connections that say nothing, or take nothing, end by their limits, and those that go on don't."""
+    folder = folder_of(work)
+    with Served(work, folder, env={"DAVSERVE_SILENCE": "2", "DAVSERVE_CONNECTIONS": "64"}) as it, contextlib.ExitStack() as halves:
+        for _ in range(64):
+            halves.enter_context(socket.create_connection(("127.0.0.1", int(it.port)), 10)).sendall(b"GET /ten")
+        right, took = gets_ten(Door(it.port), "127.0.0.1", 30)
+        tally("all are half heads, and the next client is answered in time", right and took < 15, f"{took:.1f} s")
+    with Served(work, folder, env={"DAVSERVE_PATIENCE": "2"}) as it:
+        door = Door(it.port)
+        with door.open(room=4096) as none, door.open() as steady:
+            none.sendall(head("/long"))
+            steady.sendall(head("/long", "Connection: close"))
+            got = 0
+            for _ in range(40):
+                got += len(steady.recv(1 << 18))
+                time.sleep(0.15)
+            got += taken(steady)
+            tally("a slow and steady reader gets all bytes", got > LONG, got)
+            got = taken(none)
+            tally("a reader that takes nothing for longer than it may is cut", got < LONG, got)
+
+
+def try_connections(work, tally):
+    """As many connections as are wanted, and no more; the others wait."""
+    folder = folder_of(work)
+    with Served(work, folder, env={"DAVSERVE_CONNECTIONS": "2"}) as it, contextlib.ExitStack() as waiting:
+        door = Door(it.port)
+        held = [waiting.enter_context(door.open()) for _ in range(2)]
+        for kept in held:
+            kept.sendall(door.head("/ten.txt"))
+            kept.recv(4096)
+        right, took = gets_ten(door, "127.0.0.1", 1)
+        tally("DAVSERVE_CONNECTIONS=2: a third client waits", not right, f"{took:.1f} s")
+        began = time.monotonic()
+        for _ in range(200):
+            waiting.enter_context(door.open("127.0.0.4", 0.9)).close()
+        held[0].close()
+        right, took = gets_ten(door, "127.0.0.1", 60)
+        tally("200 others wait, and the next is answered once one ends", right, f"{time.monotonic() - began:.1f} s")
+
+
+def told_by(port):
+    """What the program below tells of its connection: whether small parts go out at once, and whether a client that is gone
+    is found out."""
+    return tuple(map(int, talk(port, b"").split()))
+
+
+# In place of the program it tells of its socket.
+TELLS = """#!{}
+import socket, sys
+try:
+    it = socket.socket(fileno=0)
+except OSError:
+    sys.exit(0)
+it.sendall(b"%d %d" % (it.getsockopt(socket.IPPROTO_TCP, socket.TCP_NODELAY) != 0,
+                       it.getsockopt(socket.SOL_SOCKET, socket.SO_KEEPALIVE) != 0))
+"""
+
+
+def try_socket(work, tally):
+    """What the socket of a connection is told."""
+    program = work.write("tmp/tells", TELLS.format(sys.executable))
+    program.chmod(0o755)
+    with Served(work, folder_of(work), env={"DAVSERVE_PROGRAM": str(program)}) as it:
+        found = told_by(it.port)
+        tally("./serve: small parts go out at once (nodelay), and who is gone is found out (keepalive)", found == (1, 1), found)
+
+
+def try_listens(work, tally):
+    """Only this machine reaches it."""
+    with Served(work, folder_of(work)) as it:
+        try_listening("./serve", it.port, tally)
+
+
+def try_many_at_once(work, tally):
+    """Slow clients starve no other, 256 at once are answered, and a burst leaves nothing behind."""
+    with Served(work, folder_of(work)) as it:
+        try_slow("./serve", Door(it.port), (100, 100, 100), tally)
+        try_crowd("./serve", Door(it.port), 256, 2, tally)
+        try_burst("./serve", Door(it.port), tally)
+
+
+ENDS = {"TERM": 143, "INT": 130, "HUP": 129, "KILL": -9}
+
+
+def try_ends(work, tally):
+    """What ends the script ends its connections, and what is sent on them isn't done; the port is free at once."""
+    folder, port = folder_of(work), free_port()
+    for name, wanted in ENDS.items():
+        with Served(work, folder, port=port) as it, Door(port).open() as kept:
+            kept.sendall(head("/ten.txt"))
+            kept.recv(4096)
+            # (one that the server closes, whose port lingers)
+            talk(port, head("/ten.txt", "Connection: close"))
+            it.run.send_signal(getattr(signal, f"SIG{name}"))
+            status = it.run.wait(20)
+            if name == "KILL":
+                time.sleep(0.5)
+            with contextlib.suppress(OSError):
+                kept.sendall(head("/late", "Content-Length: 1", method="PUT") + b"x")
+                time.sleep(0.5)
+            tally(f"./serve ended by {name}: its status", status == wanted, status)
+            tally(f"./serve ended by {name}: no PUT is done on a connection", not (folder / "late").exists())
+            left = [at for _, at, state, *_ in sockets() if at == int(port) and state in (OPEN, LISTENS)]
+            tally(f"./serve ended by {name}: no socket is left", not left, left)
+            (folder / "late").unlink(missing_ok=True)
+    script = f"'{work.at}/serve' '{folder}' {port} 2>'{work.at}/tmp/script' & sleep 2; kill $!; wait $!; echo it goes on"
+    ran = subprocess.run(["bash", "-c", script], stdin=subprocess.DEVNULL, stdout=subprocess.PIPE, start_new_session=True)
+    tally("a script that ends ./serve isn't ended with it", ran.stdout == b"it goes on\n", ran.stdout)
+
+
+def try_memory(work, tally):
+    """A connection that gets no memory ends, and the others go on."""
+    folder, port = folder_of(work), free_port()
+    script = f"ulimit -v 200000; exec '{work.at}/serve' '{folder}' {port}"
+    with open(work.at / "tmp/memory", "wb") as said:
+        run = subprocess.Popen(["bash", "-c", script], stdin=subprocess.DEVNULL, stderr=said, start_new_session=True)
+    try:
+        within(20, lambda: listens(port))
+        with Door(port).open() as other:
+            other.sendall(head("/ten.txt"))
+            other.recv(4096)
+            given = head("/none", "Content-Length: 300000000", method="PUT") + bytes(250000000)
+            got = talk(port, given)
+            tally("300 MB where 200 MB may be taken: the connection ends", not got, got[:40])
+            other.sendall(head("/ten.txt"))
+            tally("the others go on", other.recv(4096).startswith(b"HTTP/1.1 200"))
+            tally("nothing was stored", not (folder / "none").exists())
+    finally:
+        os.killpg(run.pid, 15)
+        run.wait(20)
+
+
+def try_private(work, tally):
+    """A path that is drawn, told, and another each time; all else is 404."""
+    drawn = set()
+    for words, before in (((), ""), (("--prefix", "/dav"), "/dav")):
+        with Served(work, folder_of(work), "--private", *words) as it:
+            path = re.search(rf"http://127\.0\.0\.1:{it.port}({before}/[0-9a-f]{{32}})/ ", it.said())
+            tally(f"--private {words}: the path is told", path, it.said())
+            path = path[1] if path else ""
+            drawn.add(path[-32:])
+            for there, wanted in ((path, b"200"), ("", b"404"), (before, b"404"), ("/" + "0" * 32, b"404")):
+                got = talk(it.port, head(f"{there}/ten.txt", "Connection: close"))
+                tally(f"--private {words}: {there}/ten.txt", got.startswith(b"HTTP/1.1 " + wanted), got[:20])
+            got = talk(it.port, head("/ten.txt", "Connection: close", "Content-Length: 0", method="PUT"))
+            tally(f"--private {words}: PUT elsewhere", got.startswith(b"HTTP/1.1 404"), got[:20])
+    tally("--private draws another path each time", len(drawn) == 2, drawn)
+
+
+def try_release(work, tally):
+    """The script with the program beside it, as in a release, and with a program that is named."""
+    program, alone = TOP / "crates/davserve/out/davserve", work.at / "tmp/alone"
+    alone.mkdir()
+    shutil.copy2(work.at / "serve", alone / "serve")
+    with Served(work, folder_of(work), env={"DAVSERVE_PROGRAM": str(program)}, at=alone) as it:
+        tally("./serve with DAVSERVE_PROGRAM", gets_ten(Door(it.port), "127.0.0.1", 10)[0], it.said())
+    shutil.copy2(program, alone / "davserve")
+    with Served(work, folder_of(work), at=alone) as it:
+        tally("./serve with the program beside it", gets_ten(Door(it.port), "127.0.0.1", 10)[0], it.said())
+
+
+def try_roots(work, tally):
+    """Roots are served whatever their names are, absolute and relative, and under a prefix."""
+    marks = "".join(map(chr, range(1, 128))).replace("/", "")
+    names = ("with blanks", "it's \"so\"", "a,b:c!!d", "back\\slash$(touch x)`y`", "-dash", "two\nlines", "end\n", marks,
+             "Grüße 中文", "'äöü " * 25)
+    for number, name in enumerate(names):
+        folder = work.at / "tmp" / name
+        folder.mkdir()
+        (folder / "ten.txt").write_bytes(b"0123456789")
+        root, words, path = str(folder), (), ""
+        if number % 2:
+            root, words, path = os.path.relpath(folder, work.at), ("--prefix", "/a/b"), "/a/b"
+        if name == "-dash":
+            (work.at / name).symlink_to(folder)
+            root = name
+        with Served(work, root, *words) as it:
+            got = talk(it.port, head(f"{path}/ten.txt", "Connection: close"))
+            tally(f"root {name!r} {words}", got.endswith(b"0123456789"), it.said())
+            address = f"http://127.0.0.1:{it.port}{path}/ with --autoindex --bufsize 65536"
+            tally(f"root {name!r}: the address that is told", address in it.said(), it.said())
+            page = talk(it.port, head(f"{path}/", "Connection: close"))
+            tally(f"root {name!r}: it is answered", page.startswith(b"HTTP/1.1 200"), page[:40])
+
+
+def try_words(work, tally):
+    """What is wrong in the words is told in one line, and nothing is announced."""
+    def says(what, wanted, *words, env=None, status=None, at=work.at):
+        ran = subprocess.run([at / "serve", *words], cwd=work.at, env=env, stdin=subprocess.DEVNULL, stdout=subprocess.PIPE,
+                             stderr=subprocess.STDOUT, text=True, timeout=60)
+        fits = wanted in ran.stdout and "serving" not in ran.stdout and ran.stdout.count("\n") == 1
+        tally(f"./serve: {what}", fits and ran.returncode == status, f"{ran.returncode} {ran.stdout!r}")
+
+    for port in ("0", "80000", "65536", "abc", "08080", "-1", "", "8 0"):
+        says(f"port {port!r}", "is no port: it is a number from 1 to 65535", "demo", port, status=2)
+    with socket.socket() as taken:
+        taken.bind(("127.0.0.1", 0))
+        taken.listen()
+        port = str(taken.getsockname()[1])
+        says("a port in use", f"port {port} can't be had: Address already in use", "demo", port, status=1)
+    says("no words", "usage: ./serve ROOT", status=2)
+    says("no folder", "is no folder; name one that is there", "missing", "8080", status=2)
+    says("a file", "is no folder; name one that is there", "README.md", "8080", status=2)
+    says("an option that is none", "davserve: not understood: ", "demo", free_port(), "--index", status=2)
+    env = {**os.environ, "DAVSERVE_SILENCE": "x"}
+    says("a limit that is none", "are seconds, from 1 to 86400", "demo", free_port(), env=env, status=2)
+    env = {**os.environ, "DAVSERVE_CONNECTIONS": "0"}
+    says("no connections", "is a number from 1 to 100000", "demo", free_port(), env=env, status=2)
+    tools = work.at / "tmp/tools"
+    tools.mkdir()
+    for name in ("bash", "cat", "dirname", "env", "find", "mktemp", "rm", "sed", "sh"):
+        (tools / name).symlink_to(shutil.which(name))
+    env = {"PATH": str(tools)}
+    says("no socat", "socat is missing; install it", "demo", free_port(), env=env, status=1)
+    (tools / "socat").symlink_to(shutil.which("socat"))
+    bare = work.at / "tmp/bare"
+    (bare / "crates").mkdir(parents=True)
+    for name in ("serve", "davserve", "crates.txt"):
+        shutil.copy2(work.at / name, bare / name)
+    says("no program and no toolchain", "put the toolchain's rt on the PATH", "demo", free_port(), env=env, status=1, at=bare)
+    told = subprocess.run([work.at / "serve", "--help"], stdout=subprocess.PIPE, text=True)
+    for it in ("--private", "--autoindex", "--indexfile NAME", "--prefix P", "--fold", "--macos", "--bufsize N"):
+        tally(f"./serve --help has a line for {it}", told.returncode == 0 and f"\n  {it} " in told.stdout, told.stdout)
+    program = work.at / "crates/davserve/out/davserve"
+    lost = subprocess.run([program, "missing", "serve"], cwd=work.at, input=b"", stderr=subprocess.PIPE)
+    fits = lost.returncode == 0 and lost.stderr.count(b"\n") == 1 and b'"missing"' in lost.stderr
+    tally("davserve tells in one line that ROOT is no folder", fits, lost.stderr)
+
+
+def try_options(work, tally):
+    """Options stand behind the folder as well, where the port is left out. Another may have that port."""
+    with Served(work, "demo", "--indexfile", "index.html", port="") as it:
+        fits = r"127\.0\.0\.1:8080/ with --autoindex --bufsize 65536 --indexfile index.html|port 8080 can't be had"
+        tally("./serve without a port takes 8080", within(5, lambda: re.search(fits, it.said())), it.said())
+    with Served(work, "demo", "--indexfile", "index.html") as it:
+        got = talk(it.port, head("/", "Connection: close"))
+        tally("an index file", got.endswith((work.at / "demo/index.html").read_bytes()), got[:40])
+        got = talk(it.port, head("/folder/", "Connection: close"))
+        tally("a directory that lacks the index file", got.startswith(b"HTTP/1.1 404"), got[:40])
+
+
+
+
+PARTS = (try_words, try_options, try_roots, try_release, try_private, try_answers, try_silence, try_listens,
+         try_socket, try_connections, try_ends, try_memory, try_many_at_once)
+
+
+def try_own(work, tally, parts=PARTS):
+    """What needs socat and Python alone."""
+    if not shutil.which("socat"):
+        tally.leave_out("all of ./serve, since socat is missing")
+        return
+    with socket.socket() as it:
+        it.bind(("127.0.0.1", 0))
+        it.listen()
+        if not listens(it.getsockname()[1]):
+            tally.leave_out("all of ./serve, since 127.0.0.1 can't be reached here")
+            return
+    for part in parts:
+        try:
+            part(work, tally)
+        except (OSError, EOFError, subprocess.SubprocessError) as error:
+            tally(part.__name__, False, repr(error))

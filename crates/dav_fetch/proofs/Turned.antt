@@ -1,0 +1,86 @@
+-- The worlds of a fetch, one batch of the outside's changes after the other.
+use Rattle.std.proofs.Common.{◌≡◌, inl, inr, ℕ, zero, suc, List, [], ◌∷◌, true, is_some, Option, None, Some, Result, Ok, Err, refl, sym, subst}
+use Rattle.dav_io.specs.Counts.{Rose}
+use Rattle.dav_io.proofs.ToldLemmas.{told_after}
+use Rattle.dav_core.specs.Changes.{turned}
+use Rattle.dav_core.specs.Path.{Names}
+use Rattle.dav_core.specs.World.{SameBesidesOpens, World}
+use Rattle.dav_core.proofs.UnchangedLemmas.{same_besides, same_besides_then}
+use Rattle.dav_fetch.specs.declared.copied.Copied.{Copied}
+use Rattle.dav_fetch.specs.declared.copied.Kept.{Kept}
+use Rattle.dav_fetch.specs.declared.error.MirrorError.{MirrorError}
+use Rattle.dav_fetch.specs.Fetching.{AtFile, AtPage, Fetched, FilesEnd, Goes, Visited, Visits, visits_of}
+use Rattle.dav_fetch.specs.Mirroring.{AllTold}
+use Rattle.dav_fetch.specs.Peer.{Came, PeerState, RepliesIn, Seen}
+use Rattle.dav_fetch.specs.Turning.{AreTurned, MetAfter, TurnedTimes}
+use Rattle.dav_fetch.specs.Walk.{Visit, Way}
+use Rattle.dav_fetch.proofs.Ways.{visits_then, whole_visits}
+
+pub turned_left : (n : ℕ) (u v w : World) → TurnedTimes n u v → SameBesidesOpens v w → TurnedTimes n u w
+turned_left zero u v w came same = same_besides_then u v w came same
+turned_left (suc n) u v w (m, came, turn) same = (m, came, same_besides_then (turned m) v w turn same)
+
+-- ---- all visits, one after the other
+
+record Chain (s : PeerState) (visits : List Visit) : Type 0 where
+  pub end : PeerState
+  pub all : Visits s visits end
+
+no_visit : (s : PeerState) (visits : List Visit) → visits ≡ [] → Chain s visits
+no_visit s visits e = record { end = s; all = subst (λ v. Visits s v s) (sym e) refl }
+
+one_visit : (s t : PeerState) (visit : Visit) (visits : List Visit) → visits ≡ visit ∷ [] → Visited s visit t → Chain s visits
+one_visit s t visit visits e visited = record { end = t; all = subst (λ v. Visits s v t) (sym e) (t, visited, refl) }
+
+at_page : (dir : Names) (made most : ℕ) (e : MirrorError) (s : PeerState) (last : List Visit) (t : PeerState) → AtPage dir made most e s last t → Chain s last
+at_page dir made most e s last t (inl not) = no_visit s last not.0
+at_page dir made most e s last t (inr (visit, m, one, visited, is, ends)) = one_visit s m visit last one visited
+
+at_file : (left : List Names) (old got : List Kept) (made most : ℕ) (e : MirrorError) (s : PeerState) (last : List Visit) (t : PeerState) (new : List Kept) → AtFile left old got made most e s last t new → Chain s last
+at_file [] old got made most e s last t new h = absurd h
+at_file (path ∷ more) old got made most e s last t new (inl not) = no_visit s last not.none
+at_file (path ∷ more) old got made most e s last t new (inr asked) = one_visit s asked.at asked.visit last asked.one asked.visited
+
+files_end : (left : List Names) (old got : List Kept) (made most : ℕ) (result : Result Unit MirrorError) (s : PeerState) (last : List Visit) (t : PeerState) (new : List Kept)
+    → FilesEnd left old got made most result s last t new → Chain s last
+files_end left old got made most (Ok x) s last t new h = no_visit s last h.1
+files_end left old got made most (Err e) s last t new h = at_file left old got made most e s last t new h
+
+goes_on : (due : List Names) (way : Way) (made most : ℕ) (old : Copied) (s : PeerState) (rest : List Visit) (result : Result Unit MirrorError) (t : PeerState) (new : Copied)
+    → Goes due way made most old s rest result t new → Chain s rest
+goes_on [] way made most old s rest result t new (inr un) = no_visit s rest un.none
+goes_on [] way made most old s rest result t new (inl takes) =
+    let last = files_end takes.left old.files takes.got _ most result takes.mid takes.last t new.files takes.ends in
+    record { end = last.end; all = subst (λ v. Visits s v last.end) (sym takes.parts) (visits_then s takes.mid last.end takes.visits takes.last takes.chain last.all) }
+goes_on (dir ∷ due) way made most old s rest (Ok x) t new h = absurd h
+goes_on (dir ∷ due) way made most old s rest (Err e) t new h = at_page dir made most e s rest t h.0
+
+-- ---- their worlds
+
+some_world : (o : Option World) → is_some o ≡ true → (w : World) × (o ≡ Some w)
+some_world None e = cc
+some_world (Some w) e = (w, refl)
+
+all_turned : (v : World) (n : ℕ) (s t : PeerState) (visits : List Visit) → Visits s visits t → AllTold visits → (now : Seen) → s.told ≡ Some now → TurnedTimes n v now.world → AreTurned v n visits
+all_turned v n s t [] chain told now is came = tt
+all_turned v n s t (x ∷ xs) (m, visited, chain) told now is came =
+    let (w, of) = some_world x.world told.0 in
+    let (here, tells, same, reply) = subst (λ o. RepliesIn o x.path x.asked (Rose s.faults visited.at.faults) x.got visited.at.told) of visited.is in
+    let (u, before, turn) = visited.turns now here is tells in
+    let further : TurnedTimes (suc n) v here.world = (u, turned_left n v now.world u came before, turn) in
+    let (next, tells_next, read) = told_after visited.at.told m.told (Came x.came) here visited.read.told tells in (
+      λ other is_other. met w other (one w other (x.world) of is_other) here.world same further,
+      all_turned v (suc n) m t xs chain told.1 next tells_next (turned_left (suc n) v here.world next.world further read.0),
+    )
+  where
+    one : (a b : World) (o : Option World) → o ≡ Some a → o ≡ Some b → a ≡ b
+    one a b o e f = cc
+
+    met : (a b : World) → a ≡ b → (here : World) → SameBesidesOpens a here → TurnedTimes (suc n) v here → MetAfter (suc n) v b
+    met a b e here same came = (here, subst (λ x. SameBesidesOpens x here) e same, came)
+
+pub fetched_turned : (s t : PeerState) (old new : Copied) (most : ℕ) (result : Result Unit MirrorError) (f : Fetched s old most result t new) → AllTold (visits_of f)
+    → (now : Seen) → s.told ≡ Some now → AreTurned now.world 0 (visits_of f)
+fetched_turned s t old new most result f told now is =
+    let rest = goes_on f.way.due f.way _ most old f.mid f.rest result t new f.goes in
+    all_turned now.world 0 s rest.end (visits_of f) (visits_then s f.mid rest.end f.pages f.rest (whole_visits s f.mid f.pages f.chain) rest.all) told now is (same_besides now.world)
