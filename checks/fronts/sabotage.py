@@ -37,7 +37,7 @@ WAYS = (
     ("inetd", "deploy/inetd.conf", "nowait.60000", "nowait", ways.many),
     ("inetd", "deploy/davserve-inetd", " 2>/dev/null", "", ways.many),
     ("xinetd", "deploy/xinetd.conf", "    bind        = 127.0.0.1\n", "", ways.listening),
-    ("xinetd", "deploy/xinetd.conf", "    cps         = 60000 1\n", "", ways.crowd),
+    ("xinetd", "deploy/xinetd.conf", "    cps         = 60000 1\n", "", ways.many),
     ("xinetd", "deploy/xinetd.conf", "davserve-inetd", "davserve", ways.many),
     ("xinetd", "deploy/xinetd.conf", "NODELAY ", "", ways.told),
     ("xinetd", "deploy/xinetd.conf", " KEEPALIVE", "", ways.told),

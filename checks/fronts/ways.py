@@ -5,10 +5,9 @@ import os
 import re
 import shutil
 import subprocess
-import time
 
 from fronts import asking
-from fronts.clients import Door, gets_ten, talk, try_burst, try_crowd, try_kept, try_listening, try_released, try_slow
+from fronts.clients import Door, at_once, talk, try_burst, try_crowd, try_kept, try_listening, try_released, try_slow
 from fronts.own import LONG, TELLS, told_by
 from fronts.work import PORTS, Shell, Stopped, lacking, listens, run_block, sections, within
 
@@ -31,8 +30,8 @@ WAYS = {
     "Caddy": [("https://localhost:8445", SECURE, READS, True), ("https://localhost:8445/files", SECURE, READS, True)],
     "A mirror": [],
 }
-# Ways that start a process of the system for each connection: so many connections in a minute.
-MANY = {"inetd": 500, "xinetd": 500, "systemd": 1000}
+# Where a process of the system is started for each connection, so many are opened at once.
+MANY = 300
 # Ways that hold the connections of clients themselves.
 FRONTS = ("nginx", "Apache", "Caddy")
 
@@ -120,14 +119,15 @@ def burst(way, tally):
 
 
 def many(way, tally):
-    """A process of the system for each of many connections."""
-    port, count = way.doors()[0].port, MANY[way.heading]
-    began = time.monotonic()
-    right = sum(gets_ten(Door(port), "127.0.0.1", 30)[0] for _ in range(count))
-    took = time.monotonic() - began
-    tally(f"{way.heading}: {count} connections in less than a minute", right == count and took < 60, f"{right} in {took:.1f} s")
+    """A process of the system for each of many connections, more than such a thing takes if nothing is said."""
+    port = way.doors()[0].port
+    answered, cut = at_once(Door(port), MANY, 0)
+    tally(f"{way.heading}: {MANY} connections", not cut, f"{answered} answers, {len(cut)} cut: {cut[:1]}")
     refused = talk(port, b"NONE\r\n\r\n")
     tally(f"{way.heading}: a refusal has nothing behind it", refused.startswith(b"HTTP/1.1 400") and refused.endswith(b"\r\n\r\n"), refused)
+    if way.heading == "xinetd":
+        said = (way.work.at / "tmp/xinetd.log").read_text()
+        tally("xinetd: it didn't close the service for a while", "Deactivating" not in said, said[-200:])
 
 
 def told(way, tally):
