@@ -141,25 +141,26 @@ def told(way, tally):
     tally(f"{way.heading}: small parts go out at once (nodelay), and who is gone is found out (keepalive)", found == (1, 1), found)
 
 
-# What systemd would be asked of where it runs: the lines of its units that the page speaks of.
-UNITS = {
+# Lines that are looked up: those of systemd, which would have to run to be asked, and one of xinetd, which tells only where
+# the machine is fast.
+LINES = {"xinetd": {"xinetd.conf": ("    cps         = 60000 1",)}, "systemd": {
     "davserve.socket": ("ListenStream=127.0.0.1:8083", "Accept=yes", "MaxConnections=512", "NoDelay=yes", "KeepAlive=yes",
                         "TriggerLimitIntervalSec=0"),
     "davserve@.service": ("StandardInput=socket", "StandardOutput=socket", "StandardError=journal", "User=davserve",
                           "RuntimeMaxSec=1h", "ProtectSystem=strict", "ReadWritePaths=/srv/dav", "ProtectHome=true",
                           "PrivateTmp=true", "PrivateDevices=true", "PrivateNetwork=true", "NoNewPrivileges=true",
                           "RestrictAddressFamilies=AF_UNIX", "MemoryMax=2G", "SuccessExitStatus=3 4 6"),
-}
+}}
 
 
-def units(way, tally):
-    """systemd-socket-activate doesn't read units, so their lines are looked up."""
-    for name, wanted in UNITS.items():
-        lines = (way.work.at / "deploy" / name).read_text().splitlines()
+def lines(way, tally):
+    """The lines that are looked up, and that no other address is listened on."""
+    for name, wanted in LINES[way.heading].items():
+        found = (way.work.at / "deploy" / name).read_text().splitlines()
         for line in wanted:
-            tally(f"{name} has {line}", way.work.own(line) in lines)
-        listens = [line for line in lines if line.startswith("Listen") and "=127.0.0.1:" not in line]
-        tally(f"{name} listens on 127.0.0.1 alone", not listens, listens)
+            tally(f"{name} has {line.strip()}", way.work.own(line) in found)
+        others = [line for line in found if line.startswith("Listen") and "=127.0.0.1:" not in line]
+        tally(f"{name} listens on 127.0.0.1 alone", not others, others)
 
 
 def parts_of(heading):
@@ -167,8 +168,8 @@ def parts_of(heading):
     if heading in FRONTS:
         return reads, writes, guards, listening, slow, crowd, kept, burst
     return {"A mirror": (), "serve": (reads, writes), "inetd": (reads, writes, listening, many),
-            "xinetd": (reads, writes, listening, many, told, crowd),
-            "systemd": (reads, writes, listening, many, units)}[heading]
+            "xinetd": (reads, writes, listening, many, told, crowd, lines),
+            "systemd": (reads, writes, listening, many, lines)}[heading]
 
 
 @contextlib.contextmanager
