@@ -7,3 +7,4 @@ pub mod Askable
 pub mod Standing
 pub mod Listing
 pub mod Hearing
+pub mod Coming

@@ -1,5 +1,5 @@
 -- A mirror of a disk that stands still.
-use Rattle.std.proofs.Common.{◌≡◌, inl, inr, ◌<◌, ◌^◌, ℕ, [], true, Some, Result, Ok, Err, refl, sym, ap, subst, ◌∙◌, arith}
+use Rattle.std.proofs.Common.{◌≡◌, inl, inr, ◌<◌, ◌^◌, ℕ, [], true, Some, Result, Ok, Err, refl, sym, ap, subst, arith}
 use Rattle.dav_io.specs.Counts.{RefusedNothing}
 use Rattle.dav_io.specs.Outside.{Stream}
 use Rattle.dav_io.specs.declared.failure.NoMemory.{NoMemory}
@@ -10,21 +10,20 @@ use Rattle.dav_fetch.specs.declared.copied.Copied.{Copied}
 use Rattle.dav_fetch.specs.declared.error.MirrorError.{MirrorError}
 use Rattle.dav_fetch.specs.declared.error.MirrorError.TheVariants.{Peer as PeerFailed, Refused, Short, Budget, NoMemory as LacksMemory}
 use Rattle.dav_fetch.specs.Fetching.{visits_of}
-use Rattle.dav_fetch.specs.Mirroring.{IsLinkless, IsOverOne, Mirrors as IsFetched, TellsStill}
+use Rattle.dav_fetch.specs.Mirroring.{IsOverOne, Mirrors as IsFetched, TellsStill}
 use Rattle.dav_fetch.proofs.Empty.{empty_copy}
 use Rattle.dav_fetch.proofs.Reached.{reached}
 use Rattle.dav_fetch.proofs.StillTold.{still_told}
 use Rattle.dav_mirror.specs.Mirrors.{EndsBy, Lists, Mirrors, StandsStill, most_requests, peer_at}
 use Rattle.dav_mirror.specs.Seen.{seen_in}
-use Rattle.dav_mirror.proofs.Telling.{seen_some}
 
 abbrev no_copy : Copied
 no_copy = record { dirs = []; files = [] }
 
-still_first : (s : DiskState) (w : World) → s.told ≡ Some w → w.script ≡ [] → IsLinkless w → TellsStill w (peer_at s)
-still_first s w told script none = record {
+still_first : (s : DiskState) (w : World) → s.told ≡ Some w → w.script ≡ [] → TellsStill w (peer_at s)
+still_first s w told script = record {
   now = record { world = w; left = [] };
-  told = ap (seen_in true [] []) told ∙ seen_some [] [] w none;
+  told = ap (seen_in (λ tree. true) [] []) told;
   same = same_besides w;
   script = script;
 }
@@ -45,10 +44,11 @@ lists_by w (Err other) copy before after old result new is ends = absurd is
 
 pub listed : (before after : DiskState) (old new : Stream) (result : Result ℕ NoMemory) → Mirrors before after old result new → (w : World) → StandsStill before after w → Lists w old result new
 listed before after old new result m w stands =
+    let nothing : RefusedNothing before.faults m.last.faults = subst (RefusedNothing before.faults) (sym m.faults) stands.nothing in
     let over : IsOverOne w (peer_at before) no_copy (visits_of m.fetched) m.last = record {
-      nothing = subst (RefusedNothing before.faults) (sym m.faults) stands.nothing;
+      nothing = nothing;
       world = stands.world;
-      tells = still_told (peer_at before) m.last no_copy m.copy most_requests m.answer m.fetched w (still_first before w stands.told stands.script stands.linkless);
+      tells = still_told (peer_at before) m.last no_copy m.copy most_requests m.answer m.fetched w stands.world stands.linkless nothing (still_first before w stands.told stands.script);
       copy = empty_copy [] [] refl refl;
       small = λ k of. absurd of;
       faithful = λ k of. absurd of;

@@ -1,7 +1,7 @@
 -- What a player tells as a peer, before and after its steps.
 use Rattle.std.proofs.Common.{◌≡◌, ◌≢◌, inl, inr, ◌≤◌, ◌<◌, ◌+◌, ◌==◌, ◌&&◌, ◌||◌, ◌++◌, ℕ, List, [], ◌∷◌, length, take, drop, min, replicate, Bool, true, false, cond, not, is_some, Option, None, Some, Result, Ok, Err, refl, sym, ap, ap₂, subst, ◌∙◌, arith, append_assoc, eqb-true, true≢false}
-use Rattle.std.proofs.lemmas.Bool.{and_parts, or_parts, not-true}
-use Rattle.std.specs.List.{AllByRecursion, filter, list_all, list_any}
+use Rattle.std.proofs.lemmas.Bool.{and_from, and_parts, not-true}
+use Rattle.std.specs.List.{AllByRecursion}
 use Rattle.http.specs.Request.{head_of, body_of}
 use Rattle.dav_io.specs.Counts.{Rose, greatest}
 use Rattle.dav_io.specs.Told.{Both}
@@ -16,9 +16,8 @@ use Rattle.dav_core.specs.declared.tree.Kind.{Kind}
 use Rattle.dav_core.specs.declared.tree.Kind.TheVariants.{Dir, File, Link}
 use Rattle.dav_core.specs.declared.tree.Row.{Row}
 use Rattle.dav_core.specs.DavPath.{WebPath}
-use Rattle.dav_core.specs.Listing.{stands_in}
-use Rattle.dav_core.specs.Path.{Names, is_front}
-use Rattle.dav_core.specs.Tree.{is_link, is_linked}
+use Rattle.dav_core.specs.Path.{Names}
+use Rattle.dav_core.specs.Tree.{is_linked}
 use Rattle.dav_core.specs.World.{World, SameBesidesOpens, bytes_or_none}
 use Rattle.dav_core.proofs.UnchangedLemmas.{other_keys, put_same, same_besides}
 use Rattle.dav_model.specs.declared.answer.Answer.{Answer}
@@ -29,8 +28,8 @@ use Rattle.dav_model.specs.declared.step.Step.TheVariants.{Abandon, Poll, Reques
 use Rattle.dav_model.specs.declared.target.Target.TheVariants.{At}
 use Rattle.dav_model.specs.Bodies.{Gives as GivesPart, NoneEmpty, Part, Polls, read_size_of, slice, text}
 use Rattle.dav_model.specs.Conditions.{Asked, Fields, fields_of}
-use Rattle.dav_model.specs.Due.{Due, IsRight, IsHead, IsSpoiled, Query, dir_course, due, due_course, due_kind, due_looked, file as sends, known, page, query, refused, to_slash}
-use Rattle.dav_model.specs.Finding.{is_clear, shown_in}
+use Rattle.dav_model.specs.Due.{Due, IsRight, IsHead, IsSpoiled, Query, dir_course, directing, due, due_course, due_kind, due_looked, file as sends, known, listing, page, query, refused, to_slash}
+use Rattle.dav_model.specs.Finding.{is_clear, resolved, shown_in}
 use Rattle.dav_core.specs.Methods.{method_of}
 use Rattle.dav_model.specs.Gates.{admitted, bulk_of, is_partial, or_refused, unless, weighed, with_method, with_path}
 use Rattle.dav_model.specs.Head.{Reply, Stood}
@@ -41,13 +40,16 @@ use Rattle.dav_model.specs.Trail.{Leaves, Move, Point, target_of}
 use Rattle.dav_model.specs.Valid.{Valid}
 use Rattle.dav_model.specs.Written.{Makes}
 use Rattle.dav_model.proofs.Denied.{each_by_tree}
+use Rattle.dav_model.proofs.PlainWalks.{plain_resolved}
 use Rattle.dav_fetch.specs.declared.peer.Got.{Got}
 use Rattle.dav_fetch.specs.declared.peer.PeerFault.{PeerFault}
 use Rattle.dav_fetch.specs.declared.peer.PeerFault.TheVariants.{Failed as PeerFailed, NoMemory as LacksMemory}
-use Rattle.dav_fetch.specs.Peer.{Came, Gets as GetsPeer, Gives as GivesPeer, IsAskable, IsGot, PeerState, RepliesIn, Seen, StaysStill, body_in, part_bytes, peer_rules, peer_settings}
+use Rattle.dav_fetch.specs.Peer.{Came, Gets as GetsPeer, Gives as GivesPeer, IsAskable, IsGot, MeetsNone, PeerState, RepliesIn, Seen, StaysStill, TurnsOnce, body_in, part_bytes, peer_rules, peer_settings}
 use Rattle.dav_fetch.proofs.PollBytes.{poll_bytes}
 use Rattle.dav_mirror.specs.Asking.{IsAskedFor, IsGet, IsHeard}
-use Rattle.dav_mirror.specs.Seen.{are_peer_rules, has_links, is_none, is_on, is_peer_set, left_at, peer_in, seen_in, seen_of}
+use Rattle.dav_mirror.specs.Seen.{are_peer_rules, heard_by, is_clear_at, is_none, is_on, is_peer_set, left_at, peer_in, seen_in, seen_of, tells}
+use Rattle.dav_mirror.specs.declared.play_peer.Heard.{Heard}
+use Rattle.dav_mirror.specs.declared.play_peer.Heard.TheVariants.{Asked as AskedFor, Unheard}
 
 -- ---- rules of a peer
 
@@ -146,23 +148,19 @@ module _ (n : Option ℕ) (fields : Fields) (path : WebPath) (w : World) where
   right_sized rose reply (inl h) = inl (subst (λ d. IsHead (asked_by peer_settings) d reply) due_same (head_same (due shown_by_sized (asked_by (sized n))) reply h))
   right_sized rose reply (inr (h, r)) = inr (subst (λ d. IsSpoiled (asked_by peer_settings) d reply) due_same (spoiled_same (due shown_by_sized (asked_by (sized n))) reply h), r)
 
--- ---- a world without links
+-- ---- no link is met
 
-unlinked : (rows tree : List Row) (path : Names) → list_any (λ (row : Row). is_link row.kind) rows ≡ false → list_any (λ (row : Row). is_link row.kind && is_front row.path path) rows ≡ false
-unlinked [] tree path e = refl
-unlinked (row ∷ rows) tree path e =
-    let p = or_parts (is_link row.kind) (list_any (λ (r : Row). is_link r.kind) rows) e in
-    rw (p.0, unlinked rows tree path p.1) refl
+pub clear_meets : (path : WebPath) (tree : List Row) → is_clear_at path tree ≡ true → MeetsNone tree path
+clear_meets path tree e =
+    let p = and_parts (not (is_linked tree path.names)) (not path.slash || is_clear tree path.names) e in
+    record { way = not-true _ p.0; members = λ slash. subst (λ b. (not b || is_clear tree path.names) ≡ true) slash p.1 }
 
-no_link : (w : World) (path : Names) → has_links w.tree ≡ false → is_linked w.tree path ≡ false
-no_link w path e = unlinked w.tree w.tree path e
-
-all_clear : (tree rows : List Row) → ((path : Names) → is_linked tree path ≡ false) → list_all (λ (row : Row). not (is_linked tree row.path)) rows ≡ true
-all_clear tree [] none = refl
-all_clear tree (row ∷ rows) none = rw (none row.path, all_clear tree rows none) refl
-
-clear : (w : World) (dir : Names) → has_links w.tree ≡ false → is_clear w.tree dir ≡ true
-clear w dir e = rw (no_link w dir e) (all_clear w.tree (filter (stands_in dir) w.tree) (λ path. no_link w path e))
+pub meets_clear : (path : WebPath) (tree : List Row) → MeetsNone tree path → is_clear_at path tree ≡ true
+meets_clear path tree none = and_from _ _ (ap not none.way) (by path.slash refl)
+  where
+    by : (b : Bool) → path.slash ≡ b → (not path.slash || is_clear tree path.names) ≡ true
+    by true e = ap (λ b. not b || is_clear tree path.names) e ∙ none.members e
+    by false e = ap (λ b. not b || is_clear tree path.names) e
 
 -- ---- the reply
 
@@ -179,14 +177,21 @@ valid_one n p s t v w r before after =
       sound = λ e. absurd (true≢false (sym e ∙ macos));
     }
 
-meets_none : (n : Option ℕ) (w : World) (fields : Fields) (path : WebPath) → has_links w.tree ≡ false → MeetsNoLink (plain_rules (sized n)) w (query (sized n) fields Get path)
-meets_none n w fields path e = record {
-  paths = record { path = no_link w _ e; index = λ slash name set. absurd (none_set name set) };
-  members = λ lists. clear w _ e;
+meets_none : (n : Option ℕ) (w : World) (fields : Fields) (path : WebPath) → MeetsNone w.tree path → MeetsNoLink (plain_rules (sized n)) w (query (sized n) fields Get path)
+meets_none n w fields path none = record {
+  paths = record { path = ap (is_linked w.tree) found ∙ none.way; index = λ slash name set. absurd (none_set name set) };
+  members = λ lists. ap (is_clear w.tree) found ∙ none.members (by path.slash refl lists);
 }
   where
+    found : resolved (plain_rules (sized n)) w.tree path.names ≡ path.names
+    found = plain_resolved (sized n) w.tree path.names
+
     none_set : (name : List ℕ) → (◌≡◌ {A = Option (List ℕ)} None (Some name)) → ⊥
     none_set name e = cc
+
+    by : (b : Bool) → path.slash ≡ b → dir_course (query (sized n) fields Get path) path.slash ≡ listing → path.slash ≡ true
+    by true e lists = e
+    by false e lists = let other : directing ≡ listing = sym (ap (dir_course (query (sized n) fields Get path)) e) ∙ lists in cc
 
 target_is : (n : Option ℕ) (path : WebPath) (asked : List Field) (request : Asked) → IsGet asked request → IsHeard path request → target_of (plain_rules (sized n)) request ≡ At Get path
 target_is n path asked request get heard =
@@ -202,7 +207,7 @@ pub leaves_by : (p q : Playing) (s t : Point) (request : Asked) (answer : Answer
 leaves_by p q s t request answer path target x = subst (λ z. Makes z p.rules p.knows (fields_of request) (body_of request) (Ok x.reply) s t) target x.makes
 
 right_by : (p q : Playing) (s t : Point) (request : Asked) (now : Moment) (answer : Answer) (path : WebPath) (v w : World) → are_peer_rules p.rules ≡ true → target_of p.rules request ≡ At Get path
-    → s.told ≡ Some v → t.told ≡ Some w → has_links v.tree ≡ false → (x : Answered p s t request answer q) → StaysOpen t q
+    → s.told ≡ Some v → t.told ≡ Some w → MeetsNone v.tree path → (x : Answered p s t request answer q) → StaysOpen t q
     → IsRight (query peer_settings (fields_of request) Get path) (shown_in peer_rules v) (Rose s.faults t.faults) x.reply
 right_by p q s t request now answer path v w e target before after none x holds =
     let n = p.rules.settings.read_buf_size in
@@ -247,30 +252,26 @@ open_left p q t body parts w g holds told = subst (AllByRecursion (HasOpen w (q.
 
 -- ---- what is told
 
-seen_none : (kept : List ℕ) (parts : List Part) (told : Option World) → seen_in false kept parts told ≡ None
-seen_none kept parts None = refl
-seen_none kept parts (Some w) = refl
+seen_none : (on : List Row → Bool) (kept : List ℕ) (parts : List Part) (told : Option World) → ((tree : List Row) → on tree ≡ false) → seen_in on kept parts told ≡ None
+seen_none on kept parts None off = refl
+seen_none on kept parts (Some w) off = ap (λ x. cond x (Some (record { world = w; left = kept ++ body_in w parts })) None) (off w.tree)
 
-untold : (x : Bool) (kept : List ℕ) (parts : List Part) → seen_in x kept parts None ≡ None
-untold x kept parts = refl
+-- nothing is told of a world in whose tree a link was met
+seen_linked : (on : List Row → Bool) (kept : List ℕ) (parts : List Part) (w : World) → on w.tree ≡ false → seen_in on kept parts (Some w) ≡ None
+seen_linked on kept parts w e = ap (λ x. cond x (Some (record { world = w; left = kept ++ body_in w parts })) None) e
 
--- nothing is told of a world with links
-seen_linked : (kept : List ℕ) (parts : List Part) (w : World) → has_links w.tree ≡ true → seen_in true kept parts (Some w) ≡ None
-seen_linked kept parts w e = ap (λ x. cond (not x) (Some (record { world = w; left = kept ++ body_in w parts })) None) e
-
-pub seen_some : (kept : List ℕ) (parts : List Part) (w : World) → has_links w.tree ≡ false → seen_in true kept parts (Some w) ≡ Some (record { world = w; left = kept ++ body_in w parts })
-seen_some kept parts w e = ap (λ x. cond (not x) (Some (record { world = w; left = kept ++ body_in w parts })) None) e
+pub seen_some : (on : List Row → Bool) (kept : List ℕ) (parts : List Part) (w : World) → on w.tree ≡ true → seen_in on kept parts (Some w) ≡ Some (record { world = w; left = kept ++ body_in w parts })
+seen_some on kept parts w e = ap (λ x. cond x (Some (record { world = w; left = kept ++ body_in w parts })) None) e
 
 -- what holds of what is told before and after, where the world stays
-pub both_seen : (x : Bool) (kept more : List ℕ) (parts rest : List Part) (old new : Option World) (P : Seen → Seen → Type 0) → Both old new SameBesidesOpens
+pub both_seen : (on : List Row → Bool) (kept more : List ℕ) (parts rest : List Part) (old new : Option World) (P : Seen → Seen → Type 0) → Both old new SameBesidesOpens
     → ((v w : World) → old ≡ Some v → new ≡ Some w → SameBesidesOpens v w → P (record { world = v; left = kept ++ body_in v parts }) (record { world = w; left = more ++ body_in w rest }))
-    → Both (seen_in x kept parts old) (seen_in x more rest new) P
-both_seen x kept more parts rest None None P same h = tt
-both_seen x kept more parts rest None (Some w) P same h = absurd same
-both_seen x kept more parts rest (Some v) None P same h = absurd same
-both_seen x kept more parts rest (Some v) (Some w) P same h =
-    subst (λ tree. Both (cond (x && not (has_links v.tree)) (Some (record { world = v; left = kept ++ body_in v parts })) None) (cond (x && not (has_links tree)) (Some (record { world = w; left = more ++ body_in w rest })) None) P)
-    (sym same.tree) (by (x && not (has_links v.tree)))
+    → Both (seen_in on kept parts old) (seen_in on more rest new) P
+both_seen on kept more parts rest None None P same h = tt
+both_seen on kept more parts rest None (Some w) P same h = absurd same
+both_seen on kept more parts rest (Some v) None P same h = absurd same
+both_seen on kept more parts rest (Some v) (Some w) P same h =
+    subst (λ tree. Both (cond (on v.tree) (Some (record { world = v; left = kept ++ body_in v parts })) None) (cond (on tree) (Some (record { world = w; left = more ++ body_in w rest })) None) P) (sym same.tree) (by (on v.tree))
   where
     by : (b : Bool) → Both (cond b (Some (record { world = v; left = kept ++ body_in v parts })) None) (cond b (Some (record { world = w; left = more ++ body_in w rest })) None) P
     by true = h v w refl refl same
@@ -280,13 +281,13 @@ abbrev at_stage : Point → Playing → Stage
 at_stage s p = record { at = s; playing = p }
 
 -- the same of what is told of a body, by a step that leaves the world and this of the body
-step_seen : (heard : Bool) (kept more : List ℕ) (body : ℕ) (p q : Playing) (s t : Point) (rest : List Part) (P : Seen → Seen → Type 0) → Leaves s t → Gets body rest p q
+step_seen : (heard : Heard) (kept more : List ℕ) (body : ℕ) (p q : Playing) (s t : Point) (rest : List Part) (P : Seen → Seen → Type 0) → Leaves s t → Gets body rest p q
     → ((v w : World) → s.told ≡ Some v → t.told ≡ Some w → SameBesidesOpens v w → P (record { world = v; left = kept ++ body_in v (p.left body) }) (record { world = w; left = more ++ body_in w rest }))
     → Both (seen_of heard kept (Some body) (at_stage s p)) (seen_of heard more (Some body) (at_stage t q)) P
 step_seen heard kept more body p q s t rest P leaves g h =
-    subst (λ (z : Rules). Both (seen_of heard kept (Some body) (at_stage s p)) (seen_in (heard && are_peer_rules z) more (q.left body) t.told) P) (sym (ap (λ (z : Playing). z.rules) g.is))
-    (subst (λ parts. Both (seen_of heard kept (Some body) (at_stage s p)) (seen_in (heard && are_peer_rules p.rules) more parts t.told) P) (sym (left_is p q body rest g))
-    (both_seen (heard && are_peer_rules p.rules) kept more (p.left body) rest s.told t.told P leaves h))
+    subst (λ (z : Rules). Both (seen_of heard kept (Some body) (at_stage s p)) (seen_in (tells heard z) more (q.left body) t.told) P) (sym (ap (λ (z : Playing). z.rules) g.is))
+    (subst (λ parts. Both (seen_of heard kept (Some body) (at_stage s p)) (seen_in (tells heard p.rules) more parts t.told) P) (sym (left_is p q body rest g))
+    (both_seen (tells heard p.rules) kept more (p.left body) rest s.told t.told P leaves h))
 
 -- ---- a request
 
@@ -301,8 +302,8 @@ reply_number a b c f g d e = cc
 
 module _ (p q : Playing) (s t : Point) (request : Asked) (now : Moment) (answer : Answer) (path : WebPath) (asked : List Field) (heard : Bool) (before own : ℕ)
     (status : ℕ) (headers : List Field) (number : ℕ) where
-  abbrev Told : Type 0
-  Told = (world : Option World) × RepliesIn world path asked (Rose before (t.faults + own)) (record { status = status; headers = headers }) (seen_of heard [] (Some number) (at_stage t q))
+  abbrev Told : Heard → Type 0
+  Told told = (world : Option World) × RepliesIn world path asked (Rose before (t.faults + own)) (record { status = status; headers = headers }) (seen_of told [] (Some number) (at_stage t q))
 
   module _ (is : IsAskedFor path asked request heard) (less : before ≤ s.faults + own) (said : answer ≡ Replied status headers number) (x : Answered p s t request answer q) (holds : StaysOpen t q) where
     same_rules_on : q.rules ≡ p.rules
@@ -317,11 +318,8 @@ module _ (p q : Playing) (s t : Point) (request : Asked) (now : Moment) (answer 
     open_parts : (w : World) → t.told ≡ Some w → AllByRecursion (HasOpen w (q.held number)) x.reply.parts
     open_parts w told = subst (AllByRecursion (HasOpen w (q.held number))) parts_are (holds w told number)
 
-    told_none : seen_in (heard && are_peer_rules q.rules) [] (q.left number) t.told ≡ None → Told
-    told_none e = (None, e)
-
-    told_some : heard ≡ true → are_peer_rules p.rules ≡ true → (v w : World) → s.told ≡ Some v → t.told ≡ Some w → SameBesidesOpens v w → has_links v.tree ≡ false
-        → seen_of heard [] (Some number) (at_stage t q) ≡ Some (record { world = w; left = body_in w (q.left number) }) → Told
+    told_some : heard ≡ true → are_peer_rules p.rules ≡ true → (v w : World) → s.told ≡ Some v → t.told ≡ Some w → SameBesidesOpens v w → MeetsNone v.tree path
+        → seen_of (AskedFor path) [] (Some number) (at_stage t q) ≡ Some (record { world = w; left = body_in w (q.left number) }) → Told (AskedFor path)
     told_some h e v w old new same none seen =
         let target = target_by p.rules path asked request e is.get (is.is h) in (
           Some v,
@@ -341,27 +339,35 @@ module _ (p q : Playing) (s t : Point) (request : Asked) (now : Moment) (answer 
           ),
         )
 
-    by_links : heard ≡ true → are_peer_rules p.rules ≡ true → (v w : World) → s.told ≡ Some v → t.told ≡ Some w → SameBesidesOpens v w → (y : Bool) → has_links v.tree ≡ y → Told
-    by_links h e v w old new same true links = told_none
-        (ap (λ z. seen_in z [] (q.left number) t.told) (ap₂ ◌&&◌ h (ap are_peer_rules same_rules_on ∙ e)) ∙ ap (seen_in true [] (q.left number)) new ∙ seen_linked [] (q.left number) w (ap has_links same.tree ∙ links))
-    by_links h e v w old new same false links = told_some h e v w old new same links
-        (ap (λ z. seen_in z [] (q.left number) t.told) (ap₂ ◌&&◌ h (ap are_peer_rules same_rules_on ∙ e)) ∙ ap (seen_in true [] (q.left number)) new ∙ seen_some [] (q.left number) w (ap has_links same.tree ∙ links))
+    by_links : heard ≡ true → are_peer_rules p.rules ≡ true → (v w : World) → s.told ≡ Some v → t.told ≡ Some w → SameBesidesOpens v w → (y : Bool) → is_clear_at path v.tree ≡ y → Told (AskedFor path)
+    by_links h e v w old new same false links =
+        (None, ap (seen_in (tells (AskedFor path) q.rules) [] (q.left number)) new ∙ seen_linked (tells (AskedFor path) q.rules) [] (q.left number) w (on_tree false links))
+      where
+        on_tree : (y : Bool) → is_clear_at path v.tree ≡ y → tells (AskedFor path) q.rules w.tree ≡ y
+        on_tree y f = ap (λ z. are_peer_rules z && is_clear_at path w.tree) same_rules_on ∙ ap (λ z. z && is_clear_at path w.tree) e ∙ ap (is_clear_at path) same.tree ∙ f
+    by_links h e v w old new same true links = told_some h e v w old new same (clear_meets path v.tree links)
+        (ap (seen_in (tells (AskedFor path) q.rules) [] (q.left number)) new ∙ seen_some (tells (AskedFor path) q.rules) [] (q.left number) w (on_tree true links))
+      where
+        on_tree : (y : Bool) → is_clear_at path v.tree ≡ y → tells (AskedFor path) q.rules w.tree ≡ y
+        on_tree y f = ap (λ z. are_peer_rules z && is_clear_at path w.tree) same_rules_on ∙ ap (λ z. z && is_clear_at path w.tree) e ∙ ap (is_clear_at path) same.tree ∙ f
 
-    by_told : heard ≡ true → are_peer_rules p.rules ≡ true → (old new : Option World) → s.told ≡ old → t.told ≡ new → Both old new SameBesidesOpens → Told
-    by_told h e None None a b same = told_none (ap (seen_in (heard && are_peer_rules q.rules) [] (q.left number)) b)
+    by_told : heard ≡ true → are_peer_rules p.rules ≡ true → (old new : Option World) → s.told ≡ old → t.told ≡ new → Both old new SameBesidesOpens → Told (AskedFor path)
+    by_told h e None None a b same = (None, ap (seen_in (tells (AskedFor path) q.rules) [] (q.left number)) b)
     by_told h e None (Some w) a b same = absurd same
     by_told h e (Some v) None a b same = absurd same
-    by_told h e (Some v) (Some w) a b same = by_links h e v w a b same (has_links v.tree) refl
+    by_told h e (Some v) (Some w) a b same = by_links h e v w a b same (is_clear_at path v.tree) refl
 
-    by_heard : (y : Bool) → (heard && are_peer_rules p.rules) ≡ y → Told
-    by_heard false e = told_none (ap (λ z. seen_in (heard && are_peer_rules z) [] (q.left number) t.told) same_rules_on ∙ ap (λ z. seen_in z [] (q.left number) t.told) e ∙ seen_none [] (q.left number) t.told)
-    by_heard true e =
-        let a = and_parts _ _ e in
-        by_told a.0 a.1 s.told t.told refl refl (leaves_by p q s t request answer path (target_by p.rules path asked request a.1 is.get (is.is a.0)) x)
+    by_rules : heard ≡ true → (y : Bool) → are_peer_rules p.rules ≡ y → Told (AskedFor path)
+    by_rules h false e = (None, seen_none (tells (AskedFor path) q.rules) [] (q.left number) t.told (λ tree. ap (λ z. are_peer_rules z && is_clear_at path tree) same_rules_on ∙ ap (λ z. z && is_clear_at path tree) e))
+    by_rules h true e = by_told h e s.told t.told refl refl (leaves_by p q s t request answer path (target_by p.rules path asked request e is.get (is.is h)) x)
 
     -- the reply to a request is of the world before it, where it is told
-    pub replied : Told
-    replied = by_heard (heard && are_peer_rules p.rules) refl
+    pub replied : (told : Heard) → told ≡ heard_by heard path → Told told
+    replied told e = subst Told (sym e) (by heard refl)
+      where
+        by : (y : Bool) → heard ≡ y → Told (heard_by y path)
+        by true h = by_rules h (are_peer_rules p.rules) refl
+        by false h = (None, seen_none (tells Unheard q.rules) [] (q.left number) t.told (λ tree. refl))
 
 -- ---- a poll
 
@@ -400,7 +406,7 @@ poll_broke whole most cause told (part ∷ parts) rest (inl (given, is, gives)) 
 poll_broke whole most cause told (text bytes ∷ parts) rest (inr (is, none, breaks)) = absurd breaks
 poll_broke whole most cause told (slice number start count ∷ parts) rest (inr (is, none, breaks)) = breaks
 
-module _ (heard : Bool) (body : ℕ) (p q : Playing) (s t : Point) where
+module _ (heard : Heard) (body : ℕ) (p q : Playing) (s t : Point) where
   -- What was taken of the piece came, and the rest of it is kept.
   pub polled_piece : (piece came more : List ℕ) → piece ≡ came ++ more → Polled p s t body (Piece piece) q → StaysOpen t q
       → Both (seen_of heard [] (Some body) (at_stage s p)) (seen_of heard more (Some body) (at_stage t q)) (Came came)
@@ -431,14 +437,14 @@ module _ (heard : Bool) (body : ℕ) (p q : Playing) (s t : Point) where
   polled_refused x e =
       let rules_same : q.rules ≡ p.rules = ap (λ (z : Playing). z.rules) x.is in
       let left_same : q.left body ≡ p.left body = ap (λ (z : Playing). z.left body) x.is in
-      subst (λ (z : Rules). Both (seen_of heard [] (Some body) (at_stage s p)) (seen_in (heard && are_peer_rules z) [] (q.left body) t.told) (Came [])) (sym rules_same)
-      (both_seen (heard && are_peer_rules p.rules) [] [] (p.left body) (q.left body) s.told t.told (Came []) (x.makes e)
+      subst (λ (z : Rules). Both (seen_of heard [] (Some body) (at_stage s p)) (seen_in (tells heard z) [] (q.left body) t.told) (Came [])) (sym rules_same)
+      (both_seen (tells heard p.rules) [] [] (p.left body) (q.left body) s.told t.told (Came []) (x.makes e)
       (λ v w old new same. (same, ap (body_in v) (sym left_same) ∙ same_body v w (q.held body) (q.left body) same (x.held w new body))))
 
 -- What is kept of a piece is given, and the world stays.
-pub gave_kept : (heard : Bool) (body : Option ℕ) (kept came more : List ℕ) (a : Stage) → kept ≡ came ++ more → Both (seen_of heard kept body a) (seen_of heard more body a) (Came came)
+pub gave_kept : (heard : Heard) (body : Option ℕ) (kept came more : List ℕ) (a : Stage) → kept ≡ came ++ more → Both (seen_of heard kept body a) (seen_of heard more body a) (Came came)
 gave_kept heard body kept came more a cut =
-    both_seen (heard && are_peer_rules a.playing.rules) kept more (left_at body a.playing) (left_at body a.playing) a.at.told a.at.told (Came came) (both_same a.at.told a.at.told SameBesidesOpens same_besides refl)
+    both_seen (tells heard a.playing.rules) kept more (left_at body a.playing) (left_at body a.playing) a.at.told a.at.told (Came came) (both_same a.at.told a.at.told SameBesidesOpens same_besides refl)
     (λ v w old new same.
     let one : v ≡ w = some_same v w (sym old ∙ new) in
     (same, ap (λ k. k ++ body_in v (left_at body a.playing)) cut ∙ append_assoc came more (body_in v (left_at body a.playing)) ∙ ap (λ u. came ++ (more ++ body_in u (left_at body a.playing))) one))
@@ -449,15 +455,16 @@ gave_kept heard body kept came more a cut =
 -- ---- the calls of a peer
 
 -- a reply was given to a request that a player was asked behind other steps
-pub gets_reply : (s : PeerState) (m b : Stage) (request : Asked) (now : Moment) (answer : Answer) (path : WebPath) (asked : List Field) (heard : Bool) (own : ℕ) (kept : List ℕ)
-    (status : ℕ) (headers : List Field) (number : ℕ) → kept ≡ [] → IsAskedFor path asked request heard → s.faults ≤ m.at.faults + own → answer ≡ Replied status headers number
-    → Stepped m (Request request now) (Ok answer) b → (IsAskable path asked → StaysStill s (peer_in heard kept (Some number) own b))
-    → GetsPeer s path asked (Ok (record { status = status; headers = headers })) (peer_in heard kept (Some number) own b)
-gets_reply s m b request now answer path asked heard own kept status headers number none is less said (x, holds) stays = record {
+pub gets_reply : (s : PeerState) (m b : Stage) (request : Asked) (now : Moment) (answer : Answer) (path : WebPath) (asked : List Field) (heard : Bool) (told : Heard) (own : ℕ) (kept : List ℕ)
+    (status : ℕ) (headers : List Field) (number : ℕ) → told ≡ heard_by heard path → kept ≡ [] → IsAskedFor path asked request heard → s.faults ≤ m.at.faults + own → answer ≡ Replied status headers number
+    → Stepped m (Request request now) (Ok answer) b → (IsAskable path asked → StaysStill path s (peer_in told kept (Some number) own b)) → TurnsOnce s (peer_in told kept (Some number) own b)
+    → GetsPeer s path asked (Ok (record { status = status; headers = headers })) (peer_in told kept (Some number) own b)
+gets_reply s m b request now answer path asked heard told own kept status headers number told_is none is less said (x, holds) stays turns = record {
   counts = omega (arith, less, x.goes.faults);
-  is = subst (λ k. IsGot path asked s (Ok (record { status = status; headers = headers })) (peer_in heard k (Some number) own b)) (sym none)
-      (replied m.playing b.playing m.at b.at request now answer path asked heard s.faults own status headers number is less said x holds);
+  is = subst (λ k. IsGot path asked s (Ok (record { status = status; headers = headers })) (peer_in told k (Some number) own b)) (sym none)
+      (replied m.playing b.playing m.at b.at request now answer path asked heard s.faults own status headers number is less said x holds told told_is);
   stays = stays;
+  turns = turns;
 }
 
 not_zero : (n a b : ℕ) → n ≡ min a b → 0 < a → 0 < b → n ≡ 0 → ⊥
@@ -467,7 +474,7 @@ front_fits : (n a b : ℕ) → n ≡ min a b → n ≤ b
 front_fits n a b e = omega (arith, e)
 
 -- bytes are given of what is kept of a piece
-pub gives_kept : (heard : Bool) (body : Option ℕ) (own : ℕ) (a : Stage) (kept into more : List ℕ) (n : ℕ) → kept ≡ take n into ++ more → n ≡ min (length kept) (length into) → 0 < length kept → 0 < length into
+pub gives_kept : (heard : Heard) (body : Option ℕ) (own : ℕ) (a : Stage) (kept into more : List ℕ) (n : ℕ) → kept ≡ take n into ++ more → n ≡ min (length kept) (length into) → 0 < length kept → 0 < length into
     → GivesPeer (peer_in heard kept body own a) into (Ok n) (peer_in heard more body own a)
 gives_kept heard body own a kept into more n cut count some room = record {
   counts = omega arith;
@@ -479,18 +486,18 @@ gives_kept heard body own a kept into more n cut count some room = record {
 }
 
 -- nothing is left where there was no reply
-pub gives_none : (heard : Bool) (own : ℕ) (a : Stage) (kept into : List ℕ) → kept ≡ [] → GivesPeer (peer_in heard kept None own a) into (Ok 0) (peer_in heard kept None own a)
+pub gives_none : (heard : Heard) (own : ℕ) (a : Stage) (kept into : List ℕ) → kept ≡ [] → GivesPeer (peer_in heard kept None own a) into (Ok 0) (peer_in heard kept None own a)
 gives_none heard own a kept into none = subst (λ k. GivesPeer (peer_in heard k None own a) into (Ok 0) (peer_in heard k None own a)) (sym none) (record {
   counts = omega arith;
   is = (
     omega arith,
-    both_seen (heard && are_peer_rules a.playing.rules) [] [] [] [] a.at.told a.at.told (λ v w. Came (take 0 into) v w × (◌≡◌ {A = ℕ} 0 0 → v.left ≡ []))
+    both_seen (tells heard a.playing.rules) [] [] [] [] a.at.told a.at.told (λ v w. Came (take 0 into) v w × (◌≡◌ {A = ℕ} 0 0 → v.left ≡ []))
         (both_same a.at.told a.at.told SameBesidesOpens same_besides refl) (λ v w old new same. ((same, refl), λ zero. refl)),
   );
 })
 
 -- what a poll of the last reply's body gives, where nothing is kept of the last piece
-module _ (heard : Bool) (body own : ℕ) (at : Option ℕ) (polled : at ≡ Some body) (a b : Stage) (kept into : List ℕ) (none : kept ≡ []) where
+module _ (heard : Heard) (body own : ℕ) (at : Option ℕ) (polled : at ≡ Some body) (a b : Stage) (kept into : List ℕ) (none : kept ≡ []) where
   from_none : (result : Result ℕ PeerFault) (more : List ℕ) → GivesPeer (peer_in heard [] (Some body) own a) into result (peer_in heard more (Some body) own b)
       → GivesPeer (peer_in heard kept at own a) into result (peer_in heard more at own b)
   from_none result more g = subst (λ x. GivesPeer (peer_in heard kept x own a) into result (peer_in heard more x own b)) (sym polled)
@@ -587,9 +594,9 @@ pub is_replied : (a b : Stage) (request : Asked) (now : Moment) (answer : Answer
 is_replied a b request now answer (x, holds) none = none _ _ _ x.is
 
 -- A call that was refused for the count of replies raised a count of its own.
-pub gets_refused : (heard : Bool) (kept : List ℕ) (body : Option ℕ) (own more : ℕ) (a : Stage) (path : WebPath) (asked : List Field) → own ≤ more → Rose own more
+pub gets_refused : (heard : Heard) (kept : List ℕ) (body : Option ℕ) (own more : ℕ) (a : Stage) (path : WebPath) (asked : List Field) → own ≤ more → Rose own more
     → GetsPeer (peer_in heard kept body own a) path asked (Err PeerFailed) (peer_in heard kept body more a)
-gets_refused heard kept body own more a path asked less rose = record { counts = omega (arith, less); is = by rose; stays = λ askable. tt }
+gets_refused heard kept body own more a path asked less rose = record { counts = omega (arith, less); is = by rose; stays = λ askable. tt; turns = tt }
   where
     by : Rose own more → Rose (a.at.faults + own) (a.at.faults + more)
     by (inl lt) = inl (omega (arith, lt))
@@ -605,22 +612,33 @@ one_rose own less = by (own == greatest) refl
 
 -- Memory was refused, or what was asked no request can say: nothing is told of a reply.
 pub gets_lacking : (s t : PeerState) (path : WebPath) (asked : List Field) → s.faults ≤ t.faults → GetsPeer s path asked (Err LacksMemory) t
-gets_lacking s t path asked less = record { counts = less; is = tt; stays = λ askable. tt }
+gets_lacking s t path asked less = record { counts = less; is = tt; stays = λ askable. tt; turns = tt }
 
-pub gets_unheard : (s : PeerState) (kept : List ℕ) (own : ℕ) (a : Stage) (path : WebPath) (asked : List Field) (got : Got) → s.faults ≤ a.at.faults + own → (IsAskable path asked → ⊥)
-    → GetsPeer s path asked (Ok got) (peer_in false kept None own a)
-gets_unheard s kept own a path asked got less never = record { counts = less; is = (None, seen_none kept [] a.at.told); stays = λ askable. absurd (never askable) }
+pub gets_unheard : (s : PeerState) (told : Heard) (kept : List ℕ) (own : ℕ) (a : Stage) (path : WebPath) (asked : List Field) (got : Got) → told ≡ Unheard → s.faults ≤ a.at.faults + own
+    → (IsAskable path asked → ⊥) → GetsPeer s path asked (Ok got) (peer_in told kept None own a)
+gets_unheard s told kept own a path asked got unheard less never = subst (λ h. GetsPeer s path asked (Ok got) (peer_in h kept None own a)) (sym unheard) (record {
+  counts = less;
+  is = (None, none);
+  stays = λ askable. absurd (never askable);
+  turns = λ v w before after. absurd (nothing w (sym after ∙ none));
+})
+  where
+    none : seen_in (tells Unheard a.playing.rules) kept [] a.at.told ≡ None
+    none = seen_none (tells Unheard a.playing.rules) kept [] a.at.told (λ tree. refl)
+
+    nothing : (w : Seen) → Some w ≡ None → ⊥
+    nothing w e = cc
 
 -- What is told is the disk's world.
-pub told_world : (heard : Bool) (kept : List ℕ) (body : Option ℕ) (a : Stage) (v : Seen) → seen_of heard kept body a ≡ Some v → a.at.told ≡ Some v.world
-told_world heard kept body a v e = by (heard && are_peer_rules a.playing.rules) a.at.told refl e
+pub told_world : (heard : Heard) (kept : List ℕ) (body : Option ℕ) (a : Stage) (v : Seen) → seen_of heard kept body a ≡ Some v → a.at.told ≡ Some v.world
+told_world heard kept body a v e = by a.at.told refl e
   where
     some_world : (u w : Seen) → Some u ≡ Some w → Some u.world ≡ Some w.world
     some_world u w e = cc
 
-    by : (x : Bool) (told : Option World) → a.at.told ≡ told → seen_in x kept (left_at body a.playing) told ≡ Some v → a.at.told ≡ Some v.world
-    by x None is e = cc
-    by x (Some w) is e = by_test (x && not (has_links w.tree)) e
+    by : (told : Option World) → a.at.told ≡ told → seen_in (tells heard a.playing.rules) kept (left_at body a.playing) told ≡ Some v → a.at.told ≡ Some v.world
+    by None is e = cc
+    by (Some w) is e = by_test (tells heard a.playing.rules w.tree) e
       where
         by_test : (b : Bool) → cond b (Some (record { world = w; left = kept ++ body_in w (left_at body a.playing) })) None ≡ Some v → a.at.told ≡ Some v.world
         by_test true e = is ∙ some_world (record { world = w; left = kept ++ body_in w (left_at body a.playing) }) v e
@@ -630,7 +648,7 @@ told_world heard kept body a v e = by (heard && are_peer_rules a.playing.rules) 
 pub gives_same : (s t t' : PeerState) (into : List ℕ) (result : Result ℕ PeerFault) → t ≡ t' → GivesPeer s into result t' → GivesPeer s into result t
 gives_same s t t' into result e g = subst (GivesPeer s into result) (sym e) g
 
-pub peer_same : (heard other : Bool) (kept : List ℕ) (body at : Option ℕ) (own more : ℕ) (a b : Stage) → other ≡ heard → at ≡ body → more ≡ own → b ≡ a
+pub peer_same : (heard other : Heard) (kept : List ℕ) (body at : Option ℕ) (own more : ℕ) (a b : Stage) → other ≡ heard → at ≡ body → more ≡ own → b ≡ a
     → peer_in other kept at more b ≡ peer_in heard kept body own a
 peer_same heard other kept body at own more a b h k o s =
     ap (λ x. peer_in x kept at more b) h ∙ ap (λ x. peer_in heard kept x more b) k ∙ ap (λ x. peer_in heard kept body x b) o ∙ ap (peer_in heard kept body own) s

@@ -1,5 +1,6 @@
 pub mod Asking
 pub mod Seen
 pub mod Playing
+pub mod Came
 pub mod Lines
 pub mod Mirrors

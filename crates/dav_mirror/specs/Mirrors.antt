@@ -1,5 +1,5 @@
 -- How a mirror ends: what is written, and with which status, by what the fetch answered.
-use Rattle.std.specs.Prelude.{◌≡◌, ◌<◌, ◌≤◌, ◌⊎◌, ℕ, List, ◌++◌, [], length, take, true, Some, Result, Ok, Err, IfOk, IsErr}
+use Rattle.std.specs.Prelude.{◌≡◌, ◌<◌, ◌≤◌, ◌⊎◌, ℕ, List, ◌++◌, [], length, take, true, Option, Some, Result, Ok, Err, IfOk, IsErr}
 use Rattle.dav_io.specs.Counts.{RefusedNothing, Rose}
 use Rattle.dav_io.specs.Outside.{Stream}
 use Rattle.dav_io.specs.Told.{Both}
@@ -12,6 +12,7 @@ use Rattle.dav_fetch.specs.declared.error.MirrorError.TheVariants.{Peer as PeerF
 use Rattle.dav_fetch.specs.Fetching.{Fetched}
 use Rattle.dav_fetch.specs.Mirroring.{IsLinkless, IsMirror, IsWithinLimits, visible_rows}
 use Rattle.dav_fetch.specs.Peer.{PeerState, Seen}
+use Rattle.dav_mirror.specs.Came.{CameOf}
 use Rattle.dav_mirror.specs.Lines.{lines_of}
 use Rattle.dav_mirror.specs.Seen.{seen_in}
 
@@ -45,12 +46,13 @@ EndsBy (Err PeerFailed) copy before after old result new = (new ≡ old) × (res
 EndsBy (Err LacksMemory) copy before after old result new = (new ≡ old) × IsErr result
 EndsBy (Err other) copy before after old result new = (new ≡ old) × (result ≡ Ok 8)
 
--- the peer over a disk of which nothing was asked yet: it tells the disk's world, if no link stands there
+-- the peer over a disk of which nothing was asked yet: it tells the disk's world
 abbrev pub peer_at : DiskState → PeerState
-peer_at s = record { told = seen_in true [] [] s.told; faults = s.faults }
+peer_at s = record { told = seen_in (λ tree. true) [] [] s.told; faults = s.faults }
 
 -- A tree was fetched into a copy of nothing from a peer over the disk, and it ended so. The peer has the disk's count, and
--- tells no other world at the end than the disk's.
+-- tells no other world at the end than the disk's. Whatever stands there and however it ends, the disk is as the outside's
+-- changes make it, and no more is open than was, but the file of the last reply where that wasn't read to its end.
 pub record Mirrors (before after : DiskState) (old : Stream) (result : Result ℕ NoMemory) (new : Stream) : Type 0 where
   pub last : PeerState
   pub faults : last.faults ≡ after.faults
@@ -59,11 +61,13 @@ pub record Mirrors (before after : DiskState) (old : Stream) (result : Result �
   pub answer : Result Unit MirrorError
   pub fetched : Fetched (peer_at before) (record { dirs = []; files = [] }) most_requests answer last copy
   pub ends : EndsBy answer copy before.faults after.faults old result new
+  pub file : Option ℕ
+  pub came : CameOf before file after
 
 -- ---- a tree that stands still
 
--- What is asked of a disk: it tells this world, of which nothing is to change, refused nothing, and what is shown is
--- without links, within the limits, and not too much.
+-- What is asked of a disk: it tells this world, of which nothing is to change, refused nothing, and on the way through what
+-- is shown no link is met; and that is within the limits, and not too much.
 pub record StandsStill (before after : DiskState) (w : World) : Type 0 where
   pub told : before.told ≡ Some w
   pub script : w.script ≡ []

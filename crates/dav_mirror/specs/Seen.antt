@@ -1,17 +1,21 @@
 -- What a player tells as a peer, by its stage and by what is kept of the last reply.
-use Rattle.std.specs.Prelude.{◌&&◌, ◌==◌, ◌+◌, ◌^◌, ◌++◌, min, ℕ, List, [], ◌∷◌, Bool, true, false, cond, not, is_some, Option, None, Some}
-use Rattle.std.specs.List.{list_any}
+use Rattle.std.specs.Prelude.{◌&&◌, ◌||◌, ◌==◌, ◌+◌, ◌^◌, ◌++◌, min, ℕ, List, [], ◌∷◌, Bool, true, false, cond, not, is_some, Option, None, Some}
 use Rattle.dav_core.specs.declared.tree.Row.{Row}
-use Rattle.dav_core.specs.Tree.{is_link}
+use Rattle.dav_core.specs.DavPath.{WebPath}
+use Rattle.dav_core.specs.Tree.{is_linked}
 use Rattle.dav_core.specs.World.{World}
 use Rattle.dav_model.specs.declared.settings.Settings.{Settings}
 use Rattle.dav_model.specs.Bodies.{Part}
+use Rattle.dav_model.specs.Finding.{is_clear}
 use Rattle.dav_model.specs.Play.{Playing, Stage}
 use Rattle.dav_model.specs.Rules.{Rules}
 use Rattle.dav_fetch.specs.Peer.{Calls, PeerState, Seen, body_in}
+use Rattle.dav_mirror.specs.declared.play_peer.Heard.{Heard}
+use Rattle.dav_mirror.specs.declared.play_peer.Heard.TheVariants.{Asked, Unasked, Unheard}
 
-abbrev pub has_links : List Row → Bool
-has_links tree = list_any (λ (row : Row). is_link row.kind) tree
+-- No link is met by a GET of the path: none stands on the way to it or at it, nor in the directory whose page it asks for.
+abbrev pub is_clear_at : WebPath → List Row → Bool
+is_clear_at path tree = not (is_linked tree path.names) && (not path.slash || is_clear tree path.names)
 
 abbrev pub is_none : List ℕ → Bool
 is_none [] = true
@@ -30,24 +34,33 @@ is_peer_set s = is_none s.prefix && (not (is_some s.allow) && (not (is_some s.pr
 abbrev pub are_peer_rules : Rules → Bool
 are_peer_rules rules = is_peer_set rules.settings && (not rules.folds && (not rules.macos && not (is_some rules.alone)))
 
--- What is told, where the disk tells a world without links: the world, and what is left of the body, behind what is kept
--- of its last piece.
-abbrev pub seen_in : Bool → List ℕ → List Part → Option World → Option Seen
-seen_in tells kept parts None = None
-seen_in tells kept parts (Some w) =
-    cond (tells && not (has_links w.tree)) (Some (record { world = w; left = kept ++ body_in w parts })) None
+-- what a reply is the answer to, by whether its request is heard as one of the path
+abbrev pub heard_by : Bool → WebPath → Heard
+heard_by true path = Asked path
+heard_by false path = Unheard
+
+-- Whether a player tells its disk's world in a tree: under the rules of a peer, before its first reply, and behind one that
+-- was heard and met no link.
+abbrev pub tells : Heard → Rules → List Row → Bool
+tells Unasked rules tree = are_peer_rules rules
+tells (Asked path) rules tree = are_peer_rules rules && is_clear_at path tree
+tells Unheard rules tree = false
+
+-- What is told: the disk's world, and what is left of the body, behind what is kept of its last piece.
+abbrev pub seen_in : (List Row → Bool) → List ℕ → List Part → Option World → Option Seen
+seen_in on kept parts None = None
+seen_in on kept parts (Some w) = cond (on w.tree) (Some (record { world = w; left = kept ++ body_in w parts })) None
 
 -- what the body of a reply has left, where there is one
 abbrev pub left_at : Option ℕ → Playing → List Part
 left_at None p = []
 left_at (Some body) p = p.left body
 
--- It is told under the rules of a peer, where the last reply was heard.
-abbrev pub seen_of : Bool → List ℕ → Option ℕ → Stage → Option Seen
-seen_of heard kept body a = seen_in (heard && are_peer_rules a.playing.rules) kept (left_at body a.playing) a.at.told
+abbrev pub seen_of : Heard → List ℕ → Option ℕ → Stage → Option Seen
+seen_of heard kept body a = seen_in (tells heard a.playing.rules) kept (left_at body a.playing) a.at.told
 
 -- The count is that of the disk and the peer's own together.
-abbrev pub peer_in : Bool → List ℕ → Option ℕ → ℕ → Stage → PeerState
+abbrev pub peer_in : Heard → List ℕ → Option ℕ → ℕ → Stage → PeerState
 peer_in heard kept body refused a = record { told = seen_of heard kept body a; faults = a.at.faults + refused }
 
 -- How many replies it gave, as far as 2^31. Before that it refused none.

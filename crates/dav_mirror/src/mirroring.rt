@@ -1,5 +1,7 @@
 // A tree is fetched from a player over a disk, and what was fetched is listed.
 ghost use Rattle.std.specs.Prelude.{◌≡◌};
+ghost use Rattle.dav_handler.specs.Player.{playing_of};
+ghost use Rattle.dav_mirror.specs.Came.{CameOf, file_of};
 ghost use Rattle.dav_mirror.specs.Lines.{lines_of};
 ghost use Rattle.dav_mirror.specs.Mirrors.{Mirrors, Writes, peer_at, status_of as the_status_of};
 ghost use Rattle.dav_mirror.specs.Playing.{calls_of, peer_of};
@@ -21,6 +23,7 @@ fn peer_over<D: Disk + Drop>(alloc: Global, disk: D) -> PlayPeer<D, Forget>
     ensures peer { peer_of result ≡ peer_at (D.state disk) }
     ensures calls { calls_of result ≡ record { replies = 0; failures = 0 } }
     ensures loan { D.loan result.player.store.disk ≡ D.loan disk }
+    ensures since { CameOf (D.state disk) (file_of result.body (playing_of result.player)) (D.state result.player.store.disk) }
 {
     let mut settings = Settings::defaults(alloc);
     settings.autoindex = Some(true);

@@ -1,7 +1,12 @@
-ghost use Rattle.std.specs.Prelude.{◌≡◌, ◌≤◌, ◌<◌, ◌+◌, ◌^◌, [], ◌++◌, drop, length, min, take, None, true};
+ghost use Rattle.std.specs.Prelude.{◌≡◌, ◌≤◌, ◌<◌, ◌+◌, ◌^◌, [], ◌++◌, drop, length, min, take, None, OnErr, OnOk, true};
+ghost use Rattle.dav_core.specs.Disk.{DiskState};
 ghost use Rattle.dav_core.specs.World.{World};
 ghost use Rattle.dav_handler.specs.Player.{playing_of, stage_of};
 ghost use Rattle.dav_model.specs.Still.{StandsAs};
+ghost use Rattle.dav_model.specs.Trail.{Leaves};
+ghost use Rattle.dav_mirror.specs.Came.{CameOf, file_of};
+ghost use Rattle.dav_mirror.specs.Seen.{heard_by};
+ghost use Rattle.dav_mirror.specs.declared.play_peer.Heard.TheVariants.{Unasked};
 
 use crate::asking::{Asking, request_for};
 use dav_core::{DavPath, Disk};
@@ -16,12 +21,23 @@ use std::mem;
 // How many replies a player gives to a peer.
 const MOST_REPLIES: u32 = 2_147_483_648;
 
+// What the last reply is the answer to.
+#[derive(Drop)]
+enum Heard {
+    // There was none yet.
+    Unasked,
+    // A GET of this path, which was asked for.
+    Asked(DavPath),
+    // A request that isn't heard as one of the path.
+    Unheard,
+}
+
 /// A player, asked as a server is: it answers each `get` by the steps Abandon of the last body, Turn and Request, and
 /// each `piece` by Poll, and keeps the rest of a piece that doesn't fit.
 ///
-/// It tells the disk's world where the disk tells one without links, and where the player has the rules of a peer that
-/// tells: pages are permitted, nothing else is set but the size of the read buffer, and each path is meant as it is
-/// written. Its count of faults is that of the disk and one of its own together: a `get` where the player has given 2^31
+/// It tells the disk's world where the disk tells one, where the player has the rules of a peer that tells, and behind each
+/// reply that met no link: at its path, on the way to it, or in the directory whose page was asked for. By such rules pages
+/// are permitted, nothing else is set but the size of the read buffer, and each path is meant as it is written. Its count of faults is that of the disk and one of its own together: a `get` where the player has given 2^31
 /// replies fails, and asks nothing. What no request can say is answered 400, as by a server that reads it, and nothing
 /// is told then; nor behind a reply to a path under a prefix, or to a field `if`.
 pub struct PlayPeer<D: Disk, R: Remember> {
@@ -29,8 +45,7 @@ pub struct PlayPeer<D: Disk, R: Remember> {
     player: Player<D, R>,
     // The number of the last reply, where the player gave it.
     body: Option<u32>,
-    // Whether the last reply, if there was one, is that to a GET of the path that was asked for.
-    heard: bool,
+    heard: Heard,
     // The last piece, and how much of it is given.
     piece: Octets,
     at: usize,
@@ -46,15 +61,16 @@ impl<D: Disk, R: Remember> PlayPeer<D, R> {
 
     /// A peer over a player, of which nothing was asked yet.
     pub fn new(alloc: Global, player: Player<D, R>) -> Self
-        ensures peer { peer_of result ≡ peer_in true [] None 0 (stage_of player) }
+        ensures peer { peer_of result ≡ peer_in Unasked [] None 0 (stage_of player) }
         ensures player { result.player ≡ player }
+        ensures body { result.body ≡ None }
         ensures calls { calls_of result ≡ calls_in (playing_of player).replies 0 0 }
     {
         PlayPeer {
             alloc,
             player,
             body: None,
-            heard: true,
+            heard: Heard::Unasked,
             piece: Octets::empty(alloc),
             at: 0,
             refused: 0,
@@ -79,10 +95,10 @@ impl<D: Disk, R: Remember> PlayPeer<D, R> {
         player
     }
 
-    // Ends the last reply.
-    fn end_reply(&mut self)
+    // Ends the last reply. Where memory is refused, it isn't ended.
+    fn end_reply(&mut self) -> Result<(), NoMemory>
         requires { (playing_of self.old.player).replies + 1 < 2 ^ 32 }
-        ensures body { self.new.body ≡ None }
+        ensures body { OnOk result (self.new.body ≡ None) }
         ensures piece { drop self.new.at self.new.piece ≡ [] }
         ensures refused { self.new.refused ≡ self.old.refused }
         ensures faults { (D.state self.old.player.store.disk).faults ≤ (D.state self.new.player.store.disk).faults }
@@ -90,15 +106,20 @@ impl<D: Disk, R: Remember> PlayPeer<D, R> {
         ensures rules { (playing_of self.new.player).rules ≡ (playing_of self.old.player).rules }
         ensures still { (w : World) → StandsAs w (D.state self.old.player.store.disk)
             → StandsAs w (D.state self.new.player.store.disk) }
+        ensures leaves { Leaves (D.state self.old.player.store.disk) (D.state self.new.player.store.disk) }
+        ensures came { (s : DiskState) → CameOf s (file_of self.old.body (playing_of self.old.player)) (D.state self.old.player.store.disk)
+            → CameOf s (file_of self.new.body (playing_of self.new.player)) (D.state self.new.player.store.disk) }
         ensures heard { self.new.heard ≡ self.old.heard }
         ensures failures { self.new.failures ≡ self.old.failures }
         ensures loan { D.loan self.new.player.store.disk ≡ D.loan self.old.player.store.disk }
     {
         self.at = 0;
         self.piece = Octets::empty(self.alloc);
-        if let Some(body) = self.body.take() {
-            let _ = self.player.step(&Step::Abandon(body));
+        if let Some(body) = self.body {
+            abandon(&mut self.player, body)?;
         }
+        self.body = None;
+        Ok(())
     }
 
     // Gives what is kept of the last piece, as far as there is room.
@@ -118,6 +139,40 @@ impl<D: Disk, R: Remember> PlayPeer<D, R> {
     }
 }
 
+// What a reply is the answer to, by whether its request is heard as one of the path.
+fn heard_as(heard: bool, path: DavPath) -> Heard
+    ensures { result ≡ heard_by heard path }
+{
+    if heard {
+        Heard::Asked(path)
+    } else {
+        Heard::Unheard
+    }
+}
+
+// Abandons a body.
+fn abandon<D: Disk, R: Remember>(player: &mut Player<D, R>, body: u32) -> Result<(), NoMemory>
+    requires { (playing_of player.old).replies + 1 < 2 ^ 32 }
+    ensures faults { (D.state player.old.store.disk).faults ≤ (D.state player.new.store.disk).faults }
+    ensures replies { (playing_of player.new).replies ≡ (playing_of player.old).replies }
+    ensures rules { (playing_of player.new).rules ≡ (playing_of player.old).rules }
+    ensures still { (w : World) → StandsAs w (D.state player.old.store.disk)
+        → StandsAs w (D.state player.new.store.disk) }
+    ensures leaves { Leaves (D.state player.old.store.disk) (D.state player.new.store.disk) }
+    ensures ended { OnOk result ((s : DiskState)
+        → CameOf s ((playing_of player.old).held body) (D.state player.old.store.disk)
+        → CameOf s None (D.state player.new.store.disk)) }
+    ensures held { OnErr result ((s : DiskState)
+        → CameOf s ((playing_of player.old).held body) (D.state player.old.store.disk)
+        → CameOf s ((playing_of player.new).held body) (D.state player.new.store.disk)) }
+    ensures loan { D.loan player.new.store.disk ≡ D.loan player.old.store.disk }
+{
+    match player.step(&Step::Abandon(body)) {
+        Ok(_) => Ok(()),
+        Err(error) => Err(error),
+    }
+}
+
 impl<D: Disk, R: Remember> Peer for PlayPeer<D, R> {
     ghost use Rattle.dav_mirror.specs.Playing.{calls_of, peer_of};
 
@@ -127,19 +182,27 @@ impl<D: Disk, R: Remember> Peer for PlayPeer<D, R> {
 
     ghost loan = { λ p. D.loan p.player.store.disk };
 
+    ghost since = { λ p s. CameOf s (file_of p.body (playing_of p.player)) (D.state p.player.store.disk) };
+
     fn get(&mut self, path: &DavPath, fields: &Fields) -> Result<Got, PeerFault> {
         if self.player.replies() >= MOST_REPLIES {
             self.refused = self.refused.saturating_add(1);
             self.failures = self.failures.saturating_add(1);
             return Err(PeerFault::Failed);
         }
-        self.end_reply();
+        match self.end_reply() {
+            Ok(()) => {}
+            Err(_) => return Err(PeerFault::NoMemory),
+        }
+        let Ok(asked) = path.try_clone() else {
+            return Err(PeerFault::NoMemory);
+        };
         let asking = match request_for(self.alloc, path, fields) {
             Ok(asking) => asking,
             Err(_) => return Err(PeerFault::NoMemory),
         };
         let Some(Asking { request, heard }) = asking else {
-            self.heard = false;
+            self.heard = Heard::Unheard;
             return Ok(Got {
                 status: 400,
                 headers: Fields::empty(self.alloc),
@@ -156,7 +219,7 @@ impl<D: Disk, R: Remember> Peer for PlayPeer<D, R> {
                     body,
                 } = reply;
                 self.body = Some(body);
-                self.heard = heard;
+                self.heard = heard_as(heard, asked);
                 Ok(Got { status, headers })
             }
             Err(_) => Err(PeerFault::NoMemory),

@@ -2,6 +2,7 @@ use Rattle.std.proofs.Common.{◌≡◌, [], Ok, Err, ap, drop, refl, rules, sub
 use Rattle.dav_fetch.specs.Fetching.{Fetched}
 use Rattle.dav_fetch.specs.Peer.{Calls, PeerState}
 use Rattle.dav_handler.specs.Player.{playing_of, stage_of}
+use Rattle.dav_mirror.specs.Came.{file_of}
 use Rattle.dav_mirror.specs.Lines.{lines_of}
 use Rattle.dav_mirror.specs.Mirrors.{Writes, most_requests}
 use Rattle.dav_mirror.specs.Playing.{peer_of}
@@ -22,6 +23,8 @@ returns-in-Ok g c =
       answer = Ok tt;
       fetched = subst (λ s. Fetched s (record { dirs = []; files = [] }) most_requests (Ok tt) (peer_of p) c.fetch-answer.new.copy) c.peer_over-peer.ensures.peer
           (subst (λ z. Fetched first z most_requests (Ok tt) (peer_of p) c.fetch-answer.new.copy) c.empty-copy.ensures.nothing c.in-Ok.ensures.fetched);
+      file = file_of p.body (playing_of p.player);
+      came = c.in-Ok.ensures.since (g.D.Disk.state c.args.disk.now) c.peer_over-peer.ensures.since;
       ends = subst (λ f. Writes (lines_of f) (g.K.Sink.stream c.args.sink.now) c.write_lines.result (g.K.Sink.stream c.write_lines.new.sink)) c.as_slice.ensures c.write_lines.ensures;
     })
 
@@ -38,6 +41,8 @@ returns g c =
       copy = c.fetch-answer.new.copy;
       answer = Err c.in-Err.error;
       fetched = subst (λ s. Fetched s (record { dirs = []; files = [] }) most_requests (Err c.in-Err.error) (peer_of p) c.fetch-answer.new.copy) c.peer_over-peer.ensures.peer fetched;
+      file = file_of p.body (playing_of p.player);
+      came = c.in-Err.ensures.since (g.D.Disk.state c.args.disk.now) c.peer_over-peer.ensures.since;
       ends = ends_by_error c.in-Err.error c.fetch-answer.new.copy _ _ _ _ _ refl c.status_of.ensures
           (λ is. disk_rose first (peer_of p) _ _ (ap (λ (z : PeerState). z.faults) c.peer_over-peer.ensures.peer) (same_faults (g.D.Disk.state p.player.store.disk.now).faults p.refused none)
           (fetched_rose first (peer_of p) _ c.fetch-answer.new.copy most_requests (subst (λ e. Fetched first (record { dirs = []; files = [] }) most_requests (Err e) (peer_of p) c.fetch-answer.new.copy) is fetched)));

@@ -1,22 +1,63 @@
-use Rattle.std.proofs.Common.{drop, refl, arith}
+use Rattle.std.proofs.Common.{◌≡◌, false, drop, refl, subst, sym, arith, rules}
+use Rattle.std.specs.Result.{is_err}
+use Rattle.dav_io.proofs.Cases.{if_some}
 use Rattle.dav_model.specs.declared.answer.Answer.TheVariants.{Reply as Replied}
-use Rattle.dav_handler.specs.Player.{stage_of}
+use Rattle.dav_handler.specs.Player.{playing_of, stage_of}
+use Rattle.dav_mirror.specs.Came.{CameOf, file_of}
 use Rattle.dav_mirror.specs.Playing.{peer_of}
-use Rattle.dav_mirror.proofs.Standing.{hears_some, stays_told}
+use Rattle.dav_mirror.specs.Seen.{heard_by}
+use Rattle.dav_mirror.proofs.Coming.{came_answered, came_turned, came_unanswered}
+use Rattle.dav_mirror.proofs.Standing.{hears_some, stays_told, turns_told}
 use Rattle.dav_mirror.proofs.Telling.{gets_reply, turned_counts}
 use Rattle.dav_mirror.proofs.play_peer.PlayPeerPeer.get.Goals as goal
-use Rattle.dav_io.proofs.Cases.{if_some}
 
 pub returns-in-Ok-request-clause-gets : goal.returns-in-Ok-request-clause-gets
 returns-in-Ok-request-clause-gets g c =
     let p = c.args.self.now in
+    let m = c.end_reply.new.self in
     let reply = c.in-Ok-request.reply in
-    let turned = (turned_counts (stage_of c.end_reply.new.self.player) (stage_of c.turn.new.self) c.turn.result c.turn.ensures.done).0 in
-    let asked = if_some _ _ _ c.in-Some.is c.in-Ok.ensures.asks in
+    let heard = c.in-Some.field-0.heard in
+    let turned = (turned_counts (stage_of m.player) (stage_of c.turn.new.self) c.turn.result c.turn.ensures.done).0 in
+    let asked = if_some _ _ _ c.in-Some.is c.in-Ok-request_for.ensures.asks in
+    let heard_is : c.heard_as.result ≡ heard_by heard c.args.path.now = search rules in
+    let went : is_err c.turn.result ≡ false = search rules in
     gets_reply (peer_of p) (stage_of c.turn.new.self) (stage_of c.request-2.new.self) _ (record { 0 = 0 }) (Replied reply.status reply.headers reply.body) c.args.path.now c.args.fields.now
-    c.in-Some.field-0.heard c.end_reply.new.self.refused (drop c.end_reply.new.self.at c.end_reply.new.self.piece) reply.status reply.headers reply.body c.end_reply.ensures.piece
+    heard c.heard_as.result m.refused (drop m.at m.piece) reply.status reply.headers reply.body heard_is c.end_reply.ensures.piece
     asked (omega (arith, c.end_reply.ensures.faults, c.end_reply.ensures.refused, turned)) refl c.in-Ok-request.ensures.done
-    (λ askable. stays_told p.heard c.in-Some.field-0.heard (drop p.at p.piece) (drop c.end_reply.new.self.at c.end_reply.new.self.piece) p.body p.refused c.end_reply.new.self.refused reply.body
-    (stage_of p.player) (stage_of c.end_reply.new.self.player) (stage_of c.turn.new.self) (stage_of c.request-2.new.self) _ (record { 0 = 0 }) c.turn.result
-    (Replied reply.status reply.headers reply.body) c.args.path.now c.args.fields.now
-    c.end_reply.ensures.rules c.end_reply.ensures.still c.turn.ensures.done c.in-Ok-request.ensures.done asked (hears_some _ _ c.in-Some.is (c.in-Ok.ensures.hears askable)))
+    (λ askable. stays_told p.heard c.heard_as.result heard (drop p.at p.piece) (drop m.at m.piece) p.body p.refused m.refused reply.body
+    (stage_of p.player) (stage_of m.player) (stage_of c.turn.new.self) (stage_of c.request-2.new.self) _ (record { 0 = 0 }) c.turn.result
+    (Replied reply.status reply.headers reply.body) c.args.path.now c.args.fields.now c.turn.ensures.done c.in-Ok-request.ensures.done asked
+    heard_is c.end_reply.ensures.rules c.end_reply.ensures.still (hears_some _ _ c.in-Some.is (c.in-Ok-request_for.ensures.hears askable)))
+    (turns_told p.heard c.heard_as.result heard (drop p.at p.piece) (drop m.at m.piece) p.body p.refused m.refused reply.body
+    (stage_of p.player) (stage_of m.player) (stage_of c.turn.new.self) (stage_of c.request-2.new.self) _ (record { 0 = 0 }) c.turn.result
+    (Replied reply.status reply.headers reply.body) c.args.path.now c.args.fields.now c.turn.ensures.done c.in-Ok-request.ensures.done asked
+    c.end_reply.ensures.leaves went)
+
+pub returns-in-Ok-request-clause-since : goal.returns-in-Ok-request-clause-since
+returns-in-Ok-request-clause-since g c =
+    let m = c.end_reply.new.self in
+    let reply = c.in-Ok-request.reply in
+    let asked = if_some _ _ _ c.in-Some.is c.in-Ok-request_for.ensures.asks in
+    λ s came.
+    let ended = subst (λ x. CameOf s (file_of x (playing_of m.player)) (g.D.Disk.state m.player.store.disk)) c.in-Ok.ensures.body (c.end_reply.ensures.came s came) in
+    let turned = came_turned s (stage_of m.player) (stage_of c.turn.new.self) c.turn.result c.turn.ensures.done ended in
+    came_answered s (stage_of c.turn.new.self) (stage_of c.request-2.new.self) _ (record { 0 = 0 }) c.args.fields.now asked.get turned (Replied reply.status reply.headers reply.body) reply.status reply.headers reply.body refl
+    c.in-Ok-request.ensures.done
+
+pub returns-in-Err-request-clause-since : goal.returns-in-Err-request-clause-since
+returns-in-Err-request-clause-since g c =
+    let m = c.end_reply.new.self in
+    let asked = if_some _ _ _ c.in-Some.is c.in-Ok-request_for.ensures.asks in
+    λ s came.
+    let ended = subst (λ x. CameOf s (file_of x (playing_of m.player)) (g.D.Disk.state m.player.store.disk)) c.in-Ok.ensures.body (c.end_reply.ensures.came s came) in
+    let turned = came_turned s (stage_of m.player) (stage_of c.turn.new.self) c.turn.result c.turn.ensures.done ended in
+    subst (λ x. CameOf s (file_of x (playing_of c.request-2.new.self)) (g.D.Disk.state c.request-2.new.self.store.disk)) (sym c.in-Ok.ensures.body)
+    (came_unanswered s (stage_of c.turn.new.self) (stage_of c.request-2.new.self) _ (record { 0 = 0 }) c.args.fields.now asked.get turned c.in-Err-request.field-0 c.in-Err-request.ensures.done)
+
+pub returns-then-is_err-clause-since : goal.returns-then-is_err-clause-since
+returns-then-is_err-clause-since g c =
+    let m = c.end_reply.new.self in
+    λ s came.
+    let ended = subst (λ x. CameOf s (file_of x (playing_of m.player)) (g.D.Disk.state m.player.store.disk)) c.in-Ok.ensures.body (c.end_reply.ensures.came s came) in
+    subst (λ x. CameOf s (file_of x (playing_of c.turn.new.self)) (g.D.Disk.state c.turn.new.self.store.disk)) (sym c.in-Ok.ensures.body)
+    (came_turned s (stage_of m.player) (stage_of c.turn.new.self) c.turn.result c.turn.ensures.done ended)

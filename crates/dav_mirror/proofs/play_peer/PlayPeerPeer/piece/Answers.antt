@@ -1,4 +1,4 @@
-use Rattle.std.proofs.Common.{◌≡◌, ◌<◌, ◌∙◌, [], ap, drop, length, min, sym, arith}
+use Rattle.std.proofs.Common.{◌≡◌, ◌<◌, ◌∙◌, Ok, Err, [], ap, drop, length, min, sym, arith}
 use Rattle.std.proofs.lemmas.List.{drop_all}
 use Rattle.dav_model.specs.Bodies.{read_size_of}
 use Rattle.dav_model.specs.declared.answer.Answer.TheVariants.{Broken, End, Piece}
@@ -9,6 +9,7 @@ use Rattle.dav_handler.specs.Player.{stage_of}
 use Rattle.dav_handler.proofs.Upkeep.{stays_full}
 use Rattle.dav_mirror.specs.Playing.{peer_of}
 use Rattle.dav_mirror.specs.Seen.{peer_in}
+use Rattle.dav_mirror.proofs.Coming.{came_by_poll, came_same}
 use Rattle.dav_mirror.proofs.Telling.{gives_broken, gives_end, gives_piece, gives_refused, gives_same, peer_same, poll_no_reply, poll_not_done, stepped_as}
 use Rattle.dav_mirror.proofs.play_peer.PlayPeerPeer.piece.Goals as goal
 
@@ -56,3 +57,25 @@ returns-clause-gives g c =
     let none : drop p.at p.piece ≡ [] = drop_all p.at p.piece (omega (arith, c.if-self-as_slice.false, ap length c.as_slice.ensures)) in
     gives_refused p.heard c.in-Some.body p.refused p.body c.in-Some.is (stage_of p.player) (stage_of c.poll_over.new.self) (drop p.at p.piece) c.args.into.now none
     c.in-Err.field-0 c.in-Err.ensures.done c.replace.new.dest (c.replace.ensures.after ∙ c.empty.ensures)
+
+pub returns-in-Ok-Piece-clause-since : goal.returns-in-Ok-Piece-clause-since
+returns-in-Ok-Piece-clause-since g c =
+    let p = c.args.self.now in
+    let t = c.give-in-Ok-Piece.new.self in
+    λ s came. came_same s (stage_of c.poll_over.new.self) (stage_of t.player) p.body t.body c.give-in-Ok-Piece.ensures.stage c.give-in-Ok-Piece.ensures.body.0
+    (came_by_poll s (stage_of p.player) (stage_of c.poll_over.new.self) p.body c.in-Some.body (Ok c.in-Ok-Piece.field-0) c.in-Some.is c.in-Ok-Piece.ensures.done came)
+
+pub returns-in-Ok-End-clause-since : goal.returns-in-Ok-End-clause-since
+returns-in-Ok-End-clause-since g c =
+    let p = c.args.self.now in
+    λ s came. came_by_poll s (stage_of p.player) (stage_of c.poll_over.new.self) p.body c.in-Some.body (Ok c.in-Ok-End.field-0) c.in-Some.is c.in-Ok-End.ensures.done came
+
+pub returns-in-Ok-Broken-clause-since : goal.returns-in-Ok-Broken-clause-since
+returns-in-Ok-Broken-clause-since g c =
+    let p = c.args.self.now in
+    λ s came. came_by_poll s (stage_of p.player) (stage_of c.poll_over.new.self) p.body c.in-Some.body (Ok c.in-Ok-Broken.field-0) c.in-Some.is c.in-Ok-Broken.ensures.done came
+
+pub returns-clause-since : goal.returns-clause-since
+returns-clause-since g c =
+    let p = c.args.self.now in
+    λ s came. came_by_poll s (stage_of p.player) (stage_of c.poll_over.new.self) p.body c.in-Some.body (Err c.in-Err.field-0) c.in-Some.is c.in-Err.ensures.done came
