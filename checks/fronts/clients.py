@@ -178,9 +178,9 @@ def try_slow(what, door, counts, tally, refusal=None):
     takes long without them, it may take three times as long again. The address of the slow ones is refused, if it is to be."""
     before = sorted(gets_ten(door, "127.0.0.3", 20)[1] for _ in range(5))[2]
     with Slow(door, *counts) as they:
-        found = [gets_ten(door, "127.0.0.3", 30)]
+        found = [gets_ten(door, "127.0.0.3", 60)]
         while len(found) < 6 and found[-1][0]:
-            found.append(gets_ten(door, "127.0.0.3", 10))
+            found.append(gets_ten(door, "127.0.0.3", 20))
         if refusal:
             tally(f"{what}: the address of the slow ones is refused more", is_refused(door, they.source, refusal))
     fits = all(right for right, _ in found) and sorted(took for _, took in found[1:])[2] < 1 + 3 * before

@@ -174,11 +174,11 @@ def try_memory(work, tally):
         run = subprocess.Popen(["bash", "-c", script], stdin=subprocess.DEVNULL, stderr=said, start_new_session=True)
     try:
         within(20, lambda: listens(port))
-        with Door(port).open() as other:
+        with Door(port).open(limit=120) as other:
             other.sendall(head("/ten.txt"))
             other.recv(4096)
             given = head("/none", "Content-Length: 300000000", method="PUT") + bytes(250000000)
-            got = talk(port, given)
+            got = talk(port, given, 120)
             tally("300 MB where 200 MB may be taken: the connection ends", not got, got[:40])
             other.sendall(head("/ten.txt"))
             tally("the others go on", other.recv(4096).startswith(b"HTTP/1.1 200"))
