@@ -17,8 +17,9 @@ SELF = "checks/cited.py"
 
 # Words of other programs, of the machine and of the Rust crates, which nothing here bears.
 OF_OTHERS = set("""
-arrayvec as_rel_ospath basic copymove fsync getdents64 glusterd jiff LimitFSIZE litmus logrotate MemFs MemLs noac
-nocto openat Packages pip pread64 Rc Release roundrobin RRULE smallvec stat_at statx to_lowercase writev xmltree
+    RRULE arrayvec as_rel_ospath jiff smallvec to_lowercase xmltree MemFs MemLs
+    fsync getdents64 openat pread64 stat_at statx writev LimitFSIZE
+    basic copymove litmus logrotate pip Packages Release
 """.split())
 
 PAGE = re.compile(r"README\.md|(?:docs|bench)/.*\.md")
@@ -46,7 +47,7 @@ def borne_by(paths):
         borne.add(path)
         for part in path.split("/"):
             borne |= {part, os.path.splitext(part)[0]}
-        if path != SELF and not PAGE.fullmatch(path):
+        if path != SELF and not path.endswith(".md"):
             borne |= set(WORD.findall(text_of(path)))
     return borne
 
