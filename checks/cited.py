@@ -17,9 +17,8 @@ SELF = "checks/cited.py"
 
 # Words of other programs, of the machine and of the Rust crates, which nothing here bears.
 OF_OTHERS = set("""
-    RRULE arrayvec as_rel_ospath jiff smallvec to_lowercase xmltree MemFs MemLs
-    fsync getdents64 openat pread64 stat_at statx writev LimitFSIZE
-    basic copymove litmus logrotate pip Packages Release
+arrayvec as_rel_ospath basic copymove fsync getdents64 glusterd jiff LimitFSIZE litmus logrotate MemFs MemLs noac
+nocto openat Packages pip pread64 Release roundrobin RRULE smallvec stat_at statx to_lowercase writev xmltree
 """.split())
 
 PAGE = re.compile(r"README\.md|(?:docs|bench)/.*\.md")

@@ -17,37 +17,20 @@ LONG = 32 << 20
 
 
 def folder_of(work):
-    """A folder with a short file, one of 20 KB, and a long one of zeros."""
+    """A folder with a short file, and a long one of zeros."""
     folder = work.at / "tmp/folder"
     if not folder.exists():
         folder.mkdir()
-        (folder / "20k").write_bytes(b"x" * 20480)
         (folder / "ten.txt").write_bytes(TEN)
         with open(folder / "long", "wb") as it:
             it.truncate(LONG)
     return folder
 
 
-def time_of(port, path, size):
-    """What a GET on a kept connection takes, in the fastest quarter of them: what is held back comes late in nearly all, and
-    another load of the machine in a few."""
-    times = []
-    with socket.create_connection(("127.0.0.1", int(port)), 10) as kept:
-        for _ in range(20):
-            began, got = time.monotonic(), 0
-            kept.sendall(head(path))
-            while got < size:
-                got += len(kept.recv(1 << 20))
-            times.append(time.monotonic() - began)
-    return sorted(times)[5]
-
-
 def try_answers(work, tally):
-    """No answer of ./serve comes late, is lost or is cut."""
+    """No answer of ./serve is lost or cut."""
     folder = folder_of(work)
     with Served(work, folder) as it:
-        took = time_of(it.port, "/20k", 20480)
-        tally("a GET of 20 KB on a kept connection takes under 20 ms", took < 0.02, f"{took * 1000:.1f} ms")
         right = sum(talk(it.port, b"NONE\r\n\r\n").startswith(b"HTTP/1.1 400") for _ in range(50))
         tally("50 bad requests get 50 answers 400", right == 50, right)
         large = b"PUT /x HTTP/1.1\r\nContent-Length: 1073741825\r\n\r\n" + b"x" * 4096

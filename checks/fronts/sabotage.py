@@ -37,13 +37,14 @@ WAYS = (
     ("inetd", "deploy/inetd.conf", "nowait.60000", "nowait", ways.many),
     ("inetd", "deploy/davserve-inetd", " 2>/dev/null", "", ways.many),
     ("xinetd", "deploy/xinetd.conf", "    bind        = 127.0.0.1\n", "", ways.listening),
-    ("xinetd", "deploy/xinetd.conf", "    cps         = 60000 1\n", "", ways.crowd),
+    ("xinetd", "deploy/xinetd.conf", "    cps         = 60000 1\n", "", ways.lines),
     ("xinetd", "deploy/xinetd.conf", "davserve-inetd", "davserve", ways.many),
     ("xinetd", "deploy/xinetd.conf", "NODELAY ", "", ways.told),
     ("xinetd", "deploy/xinetd.conf", " KEEPALIVE", "", ways.told),
     ("xinetd", "deploy/xinetd.conf", "instances   = 512", "instances   = 64", ways.crowd),
-    *(("systemd", f"deploy/{name}", f"{line}\n", "", ways.units) for name, lines in ways.UNITS.items() for line in lines),
-    ("systemd", "deploy/davserve.socket", "ListenStream=127.0.0.1:8083", "ListenStream=8083", ways.units),
+    *(("systemd", f"deploy/{name}", f"{line}\n", "", ways.lines)
+      for name, wanted in ways.LINES["systemd"].items() for line in wanted),
+    ("systemd", "deploy/davserve.socket", "ListenStream=127.0.0.1:8083", "ListenStream=8083", ways.lines),
     ("nginx", NGINX, "worker_connections 4096", "worker_connections 128", ways.crowd),
     ("nginx", NGINX, "listen 127.0.0.1:8443", "listen 8443", ways.listening),
     ("nginx", NGINX, "listen 127.0.0.1:8081", "listen 8081", ways.listening),
@@ -91,6 +92,8 @@ def failures(heading, edit, part):
         work = Work(folder, edit)
         if heading == "serve":
             own.try_own(work, tally, [part])
+        elif part is ways.lines:
+            part(ways.Way(work, heading), tally)
         else:
             found = ways.prepared(work, tally, large=part is ways.writes)
             if part is waits.try_front:
