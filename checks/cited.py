@@ -17,6 +17,8 @@ SELF = "checks/cited.py"
 
 # Words of other programs, of the machine and of the Rust crates, which nothing here bears.
 OF_OTHERS = set("""
+arrayvec as_rel_ospath basic copymove fsync getdents64 glusterd jiff LimitFSIZE litmus logrotate MemFs MemLs noac
+nocto openat Packages pip pread64 Release roundrobin RRULE smallvec stat_at statx to_lowercase writev xmltree
 """.split())
 
 PAGE = re.compile(r"README\.md|(?:docs|bench)/.*\.md")
@@ -44,7 +46,7 @@ def borne_by(paths):
         borne.add(path)
         for part in path.split("/"):
             borne |= {part, os.path.splitext(part)[0]}
-        if path != SELF and not PAGE.fullmatch(path):
+        if path != SELF and not path.endswith(".md"):
             borne |= set(WORD.findall(text_of(path)))
     return borne
 

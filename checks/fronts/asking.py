@@ -22,7 +22,7 @@ class Asker:
         return ran.stdout, head.read_text(errors="replace").lower() if head.exists() else "", body
 
 
-def try_reading(ask, guarded, folder, tally):
+def try_reading(ask, folder, tally):
     """Reads, refusals to read, and ranges."""
     status, head, body = ask("/ten.txt")
     tally(f"{ask.url}: GET", status == "200" and body.read_bytes() == b"0123456789", status)
@@ -41,8 +41,6 @@ def try_reading(ask, guarded, folder, tally):
     for link, name in NAMES.items():
         status, _, body = ask(f"/{link}")
         tally(f"{ask.url}: {link}", status == "200" and body.read_bytes() == (folder / name).read_bytes(), status)
-    if guarded:
-        try_guards(ask, tally)
 
 
 def try_guards(ask, tally):

@@ -6,6 +6,7 @@ import shutil
 import signal
 import socket
 import subprocess
+import sys
 import time
 
 from fronts.clients import LISTENS, OPEN, TEN, Door, gets_ten, head, sockets, talk, try_burst, try_crowd, try_listening, try_slow
@@ -16,39 +17,20 @@ LONG = 32 << 20
 
 
 def folder_of(work):
-    """A folder with a short file, one of 20 KB, one that no piece holds whole, and a long one of zeros."""
+    """A folder with a short file, and a long one of zeros."""
     folder = work.at / "tmp/folder"
     if not folder.exists():
         folder.mkdir()
-        for name, size in (("20k", 20480), ("100k", 100000)):
-            (folder / name).write_bytes(b"x" * size)
         (folder / "ten.txt").write_bytes(TEN)
         with open(folder / "long", "wb") as it:
             it.truncate(LONG)
     return folder
 
 
-def median_time(port, path, size):
-    """What a GET on a kept connection takes. The median: what is held back comes late in nearly all of them, and another
-    load of the machine in a few."""
-    times = []
-    with socket.create_connection(("127.0.0.1", int(port)), 10) as kept:
-        for _ in range(20):
-            began, got = time.monotonic(), 0
-            kept.sendall(head(path))
-            while got < size:
-                got += len(kept.recv(1 << 20))
-            times.append(time.monotonic() - began)
-    return sorted(times)[10]
-
-
 def try_answers(work, tally):
-    """No answer of ./serve comes late, is lost or is cut."""
+    """No answer of ./serve is lost or cut."""
     folder = folder_of(work)
     with Served(work, folder) as it:
-        for name, size in (("20k", 20480), ("100k", 100000)):
-            median = median_time(it.port, f"/{name}", size)
-            tally(f"a GET of {name} on a kept connection takes under 20 ms", median < 0.02, f"{median * 1000:.1f} ms")
         right = sum(talk(it.port, b"NONE\r\n\r\n").startswith(b"HTTP/1.1 400") for _ in range(50))
         tally("50 bad requests get 50 answers 400", right == 50, right)
         large = b"PUT /x HTTP/1.1\r\nContent-Length: 1073741825\r\n\r\n" + b"x" * 4096
@@ -96,7 +78,7 @@ def try_silence(work, tally):
 
 
 def try_connections(work, tally):
-    """As many connections as are wanted, and no more; the others wait. A connection whose client is gone is found out."""
+    """As many connections as are wanted, and no more; the others wait."""
     folder = folder_of(work)
     with Served(work, folder, env={"DAVSERVE_CONNECTIONS": "2"}) as it, contextlib.ExitStack() as waiting:
         door = Door(it.port)
@@ -104,8 +86,6 @@ def try_connections(work, tally):
         for kept in held:
             kept.sendall(door.head("/ten.txt"))
             kept.recv(4096)
-        timers = [timer for _, port, state, timer, _ in sockets() if port == int(it.port) and state == OPEN]
-        tally("each connection is looked after by keepalive", timers.count("02") >= 2, timers)
         right, took = gets_ten(door, "127.0.0.1", 1)
         tally("DAVSERVE_CONNECTIONS=2: a third client waits", not right, f"{took:.1f} s")
         began = time.monotonic()
@@ -114,6 +94,33 @@ def try_connections(work, tally):
         held[0].close()
         right, took = gets_ten(door, "127.0.0.1", 60)
         tally("200 others wait, and the next is answered once one ends", right, f"{time.monotonic() - began:.1f} s")
+
+
+def told_by(port):
+    """What the program below tells of its connection: whether small parts go out at once, and whether a client that is gone
+    is found out."""
+    return tuple(map(int, talk(port, b"").split()))
+
+
+# In place of the program it tells of its socket.
+TELLS = """#!{}
+import socket, sys
+try:
+    it = socket.socket(fileno=0)
+except OSError:
+    sys.exit(0)
+it.sendall(b"%d %d" % (it.getsockopt(socket.IPPROTO_TCP, socket.TCP_NODELAY) != 0,
+                       it.getsockopt(socket.SOL_SOCKET, socket.SO_KEEPALIVE) != 0))
+"""
+
+
+def try_socket(work, tally):
+    """What the socket of a connection is told."""
+    program = work.write("tmp/tells", TELLS.format(sys.executable))
+    program.chmod(0o755)
+    with Served(work, folder_of(work), env={"DAVSERVE_PROGRAM": str(program)}) as it:
+        found = told_by(it.port)
+        tally("./serve: small parts go out at once (nodelay), and who is gone is found out (keepalive)", found == (1, 1), found)
 
 
 def try_listens(work, tally):
@@ -140,6 +147,8 @@ def try_ends(work, tally):
         with Served(work, folder, port=port) as it, Door(port).open() as kept:
             kept.sendall(head("/ten.txt"))
             kept.recv(4096)
+            # (one that the server closes, whose port lingers)
+            talk(port, head("/ten.txt", "Connection: close"))
             it.run.send_signal(getattr(signal, f"SIG{name}"))
             status = it.run.wait(20)
             if name == "KILL":
@@ -187,7 +196,7 @@ def try_private(work, tally):
             path = re.search(rf"http://127\.0\.0\.1:{it.port}({before}/[0-9a-f]{{32}})/ ", it.said())
             tally(f"--private {words}: the path is told", path, it.said())
             path = path[1] if path else ""
-            drawn.add(path)
+            drawn.add(path[-32:])
             for there, wanted in ((path, b"200"), ("", b"404"), (before, b"404"), ("/" + "0" * 32, b"404")):
                 got = talk(it.port, head(f"{there}/ten.txt", "Connection: close"))
                 tally(f"--private {words}: {there}/ten.txt", got.startswith(b"HTTP/1.1 " + wanted), got[:20])
@@ -291,7 +300,7 @@ def try_options(work, tally):
 
 
 PARTS = (try_words, try_options, try_roots, try_release, try_private, try_answers, try_silence, try_listens,
-         try_connections, try_ends, try_memory, try_many_at_once)
+         try_socket, try_connections, try_ends, try_memory, try_many_at_once)
 
 
 def try_own(work, tally, parts=PARTS):

@@ -1,17 +1,18 @@
 """Lines of `./serve` and of deploy/ that are needed, each taken out of a copy or changed there, and what has to see it."""
+import contextlib
 import tempfile
 import time
 
 from fronts import own, waits, ways
-from fronts.work import Tally, Work, lacking
+from fronts.work import Stopped, Tally, Work, lacking
 
 # Of ./serve: what stands there, what stands there instead, and the part that fails.
 OWN = (
     ("bind=127.0.0.1,", "", own.try_listens),
     ("reuseaddr,", "", own.try_ends),
     ("backlog=1024", "backlog=128", own.try_connections),
-    (",nodelay", "", own.try_answers),
-    ('limits="keepalive,', 'limits="', own.try_connections),
+    (",nodelay", "", own.try_socket),
+    ('limits="keepalive,', 'limits="', own.try_socket),
     (",max-children=$most", "", own.try_connections),
     ("DAVSERVE_CONNECTIONS:-512", "DAVSERVE_CONNECTIONS:-64", own.try_many_at_once),
     ("DAVSERVE_CONNECTIONS:-512", "DAVSERVE_CONNECTIONS:-16", own.try_many_at_once),
@@ -36,13 +37,14 @@ WAYS = (
     ("inetd", "deploy/inetd.conf", "nowait.60000", "nowait", ways.many),
     ("inetd", "deploy/davserve-inetd", " 2>/dev/null", "", ways.many),
     ("xinetd", "deploy/xinetd.conf", "    bind        = 127.0.0.1\n", "", ways.listening),
-    ("xinetd", "deploy/xinetd.conf", "    cps         = 60000 1\n", "", ways.many),
+    ("xinetd", "deploy/xinetd.conf", "    cps         = 60000 1\n", "", ways.lines),
     ("xinetd", "deploy/xinetd.conf", "davserve-inetd", "davserve", ways.many),
-    ("xinetd", "deploy/xinetd.conf", "NODELAY ", "", ways.prompt),
-    ("xinetd", "deploy/xinetd.conf", " KEEPALIVE", "", ways.prompt),
+    ("xinetd", "deploy/xinetd.conf", "NODELAY ", "", ways.told),
+    ("xinetd", "deploy/xinetd.conf", " KEEPALIVE", "", ways.told),
     ("xinetd", "deploy/xinetd.conf", "instances   = 512", "instances   = 64", ways.crowd),
-    *(("systemd", f"deploy/{name}", f"{line}\n", "", ways.units) for name, lines in ways.UNITS.items() for line in lines),
-    ("systemd", "deploy/davserve.socket", "ListenStream=127.0.0.1:8083", "ListenStream=8083", ways.units),
+    *(("systemd", f"deploy/{name}", f"{line}\n", "", ways.lines)
+      for name, wanted in ways.LINES["systemd"].items() for line in wanted),
+    ("systemd", "deploy/davserve.socket", "ListenStream=127.0.0.1:8083", "ListenStream=8083", ways.lines),
     ("nginx", NGINX, "worker_connections 4096", "worker_connections 128", ways.crowd),
     ("nginx", NGINX, "listen 127.0.0.1:8443", "listen 8443", ways.listening),
     ("nginx", NGINX, "listen 127.0.0.1:8081", "listen 8081", ways.listening),
@@ -86,12 +88,14 @@ WAYS = (
 def failures(heading, edit, part):
     """What fails in a copy with this edit, or in one without."""
     tally = Tally(quiet=True)
-    with tempfile.TemporaryDirectory(prefix="davserve-") as folder:
+    with tempfile.TemporaryDirectory(prefix="davserve-") as folder, contextlib.suppress(Stopped):
         work = Work(folder, edit)
         if heading == "serve":
             own.try_own(work, tally, [part])
+        elif part is ways.lines:
+            part(ways.Way(work, heading), tally)
         else:
-            found = ways.prepared(work, Tally(quiet=True), large=part is ways.writes)
+            found = ways.prepared(work, tally, large=part is ways.writes)
             if part is waits.try_front:
                 waits.guarded(work, heading, found[heading], tally)
             else:

@@ -58,10 +58,21 @@ def try_front(work, heading, blocks, tally):
     work.refresh()
     late, shell = Late(work.ports["8080"]), Shell(work)
     start, _, stop = blocks
-    for line in start:
-        if not line.startswith(("apt-get ", "./serve", "DAVSERVE_")):
-            shell.run(line)
-    doors = Way(work, heading).doors()
+    try:
+        for line in start:
+            if not line.startswith(("apt-get ", "./serve", "DAVSERVE_")):
+                shell.run(line)
+        try_doors(heading, Way(work, heading).doors(), tally)
+    finally:
+        for line in stop:
+            if not line.startswith("kill "):
+                shell.run(line)
+        shell.end()
+        late.it.close()
+
+
+def try_doors(heading, doors, tally):
+    """At each a request that is answered late, and a head that drips, all at once."""
     tally(f"{heading}: it listens", all(within(20, lambda it=door: listens(it.port)) for door in doors))
     got, cut = [[] for _ in doors], [[] for _ in doors]
     threads = [threading.Thread(target=lambda at=at, it=it: got[at].append(gets_ten(it, "127.0.0.1", LONG_WAIT + 20)[0]))
@@ -74,11 +85,6 @@ def try_front(work, heading, blocks, tally):
     for door, answered, over in zip(doors, got, cut):
         tally(f"{heading}, port {door.port}: an answer after {LONG_WAIT} s comes", answered == [True])
         tally(f"{heading}, port {door.port}: a head that drips is ended", over == [True])
-    for line in stop:
-        if not line.startswith("kill "):
-            shell.run(line)
-    shell.end()
-    late.it.close()
 
 
 def try_waits(works, found, tally):

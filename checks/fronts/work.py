@@ -20,8 +20,12 @@ PORTS = ("8080", "8081", "8082", "8083", "8084", "8086", "8087", "8443", "8444",
 LEFT_OUT = ("useradd ",)
 
 
+class Stopped(Exception):
+    """Ends what a quiet tally is given, at the first failure."""
+
+
 class Tally:
-    """What held, what failed, and what was left out."""
+    """What held, what failed, and what was left out. A quiet one says nothing, and stops at the first failure."""
 
     def __init__(self, quiet=False):
         self.held, self.failed, self.left_out, self.quiet = 0, [], [], quiet
@@ -31,7 +35,9 @@ class Tally:
             self.held += 1
         else:
             self.failed.append(what)
-            self.quiet or print(f"  FAILED: {what}{f': {found}' if found != '' else ''}", flush=True)
+            if self.quiet:
+                raise Stopped(what)
+            print(f"  FAILED: {what}{f': {found}' if found != '' else ''}", flush=True)
 
     def leave_out(self, what):
         self.left_out.append(what)
@@ -156,7 +162,8 @@ class Shell:
         """Ends the shell, and what it started and didn't end. The log tells why something failed."""
         with contextlib.suppress(OSError):
             os.killpg(self.bash.pid, 15)
-        self.bash.stdin.close()
+        with contextlib.suppress(OSError):
+            self.bash.stdin.close()
         self.bash.wait(10)
         self.log.close()
 

@@ -1,6 +1,6 @@
 #!/usr/bin/env python3
 """Makes the rows of calendars of the program `report_rows` and the answers that it must print, from the rules for calendar
-texts and their filters alone (docs/DECISIONS.md, "Calendar texts"), and from nothing that the program does.
+texts and their filters alone (CALENDARS.md, beside this file), and from nothing that the program does.
 
     checks/rows/calendar_rows.py [--cases COUNT] [--seed NUMBER] [--check]
 
