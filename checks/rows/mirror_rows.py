@@ -51,9 +51,12 @@ class Peer:
         if self.calls in self.fails:
             raise Failed
 
-    def get(self, path, fields):
+    def note(self, path, fields):
         told = b"long" if len(path) >= 200 else path
         self.asked.append("[" + escaped(told, b" ") + "".join(f" {n}={escaped(v, b' ')}" for n, v in fields) + "]")
+
+    def get(self, path, fields):
+        self.note(path, fields)
         self.called()
         status, headers, body = self.replies.pop(0) if self.replies else (404, [], b"")
         self.left = body
@@ -263,6 +266,9 @@ def told(copy):
 def wanted(row):
     if row.startswith("#"):
         return row
+    if row.startswith("over "):
+        from mirroring import over
+        return over(row)
     words, copy, lines = row.split(" "), [[], {}], []
     for at in range(0, len(words), 3):
         replies = [reply_of(text) for text in words[at + 2].split(";") if text != "-"]
@@ -407,6 +413,8 @@ def rows():
     yield "# Trees that change between requests, calls that fail, and a second fetch of what stands then."
     for seed in range(60):
         yield changing(seed)
+    from mirroring import over_rows
+    yield from over_rows()
 
 
 def second_of(tree, call):

@@ -4,9 +4,10 @@
 """
 import os
 import random
+from urllib.parse import unquote_to_bytes
 
 from disk import SECOND, Disk
-from mirror_rows import Failed, Fetch, Page, Peer, link_of
+from mirror_rows import Failed, Fetch, Page, Peer, link_of, told
 from model import Fields, Request, Settings
 from pages import read_page
 from play import Player
@@ -24,15 +25,17 @@ def page_of(body):
 
 
 class Played(Peer):
-    """A player that is asked as a server is: each request ends the answer before it, and stands behind a turn."""
+    """A player that is asked as a server is: each request ends the answer before it, and stands behind a turn. It reads
+    so many bytes at once, where a number is given."""
 
-    def __init__(self, disk):
+    def __init__(self, disk, buffer=None):
         super().__init__([], ())
         settings = Settings()
-        settings.autoindex = True
+        settings.autoindex, settings.buffer = True, buffer
         self.player, self.number = Player(Store(disk, Memory(), False, False), settings), None
 
     def get(self, path, fields):
+        self.note(path, fields)
         if self.number is not None:
             self.player.step(("abandon", self.number))
         self.player.step(("turn",))
@@ -55,6 +58,79 @@ def mirrored(disk):
         return 5 if ended == "peer" else 8, b""
     links = {path: link_of(b"".join(b"/" + name for name in path)) for path in copy[1]}
     return 0, b"".join(b"%d %s\n" % (copy[1][path][1], links[path]) for path in sorted(copy[1]))
+
+
+# ---- fetches from one disk, one after the other
+
+def names_of(text):
+    return tuple(unquote_to_bytes(name).decode() for name in text.split("/") if name)
+
+
+def disk_of(tree, turns, fails):
+    """A disk with the entries of a row `over`, its turns, and the numbers of its calls that fail."""
+    disk = Disk()
+    for at, entry in enumerate(tree.split(",")):
+        name, _, text = entry.partition("=")
+        disk.add(names_of(name), 0x20 + at, SECOND, None if name.endswith("/") else data_of(text))
+    for turn in [] if turns == "-" else turns.split(";"):
+        changes = [part.split(":") for part in turn.split(",") if part]
+        disk.scripts.append([CHANGES[word](names_of(path), *more) for word, path, *more in changes])
+    disk.fails = {int(call) for call in fails.split(",") if call != "-"}
+    return disk
+
+
+CHANGES = {"cut": lambda path, count: ("cut", path, int(count)), "remove": lambda path: ("remove", path),
+           "file": lambda path, text: ("file", path, data_of(text))}
+
+
+def data_of(text):
+    return b"x" * int(text[1:]) if text.startswith("*") else unquote_to_bytes(text)
+
+
+def over(row):
+    """What is wanted for a row `over BUFFER TREE TURNS FAILS MOST [MOST]`."""
+    _, buffer, tree, turns, fails, *most = row.split(" ")
+    disk, copy, lines = disk_of(tree, turns, fails), [[], {}], []
+    for count in most:
+        peer = Played(disk, int(buffer) or None)
+        ended = Fetch(copy, int(count), peer).run()
+        lines.append("".join(peer.asked) + " " + ended + told(copy))
+    return " then ".join(lines)
+
+
+def calls_over(row):
+    """How many calls of the disk a row makes where none fails."""
+    _, buffer, tree, turns, _, *most = row.split(" ")
+    disk, copy = disk_of(tree, turns, "-"), [[], {}]
+    for count in most:
+        Fetch(copy, int(count), Played(disk, int(buffer) or None)).run()
+    return disk.asked
+
+
+def each_call(buffer, tree, turns="-", most="99 99"):
+    """The row with each of its calls failing in turn."""
+    for call in range(1, calls_over(f"over {buffer} {tree} {turns} - {most}") + 2):
+        yield f"over {buffer} {tree} {turns} {call} {most}"
+
+
+def over_rows():
+    yield ("# From a player over one disk: behind a read that broke a file goes on (206), or comes anew where it was changed"
+           " meanwhile (200); one that is whole is asked whether it changed (304). Each call fails in turn.")
+    yield from each_call(4, "f=abcdefghij")
+    yield from each_call(4, "f=abcdefghij", ";;;cut:f:6")
+    yield from each_call(4, "f=abcdefghij", ";;;cut:f:2")
+    yield from each_call(4, "f=abcdefghij", ";;;remove:f,file:f:abcdefghij")
+    yield from each_call(4, "f=abcdefghij", ";;remove:f")
+    yield from each_call(4096, "f=*9000")
+    yield from each_call(0, "d/,d/g=*20000,f=hi")
+    yield "# What changes between two requests of a fetch."
+    for turns in (";cut:f:6", ";remove:f", ";;;cut:f:6", ";;;file:h:new", ";;file:h:new", ";;remove:f;file:f:x"):
+        yield f"over 4 f=abcdefghij {turns} - 99 99"
+    yield "# The budget of the first fetch, and of the second, which asks of what is kept whether it changed."
+    for first in range(6):
+        for second in (0, 3, 99):
+            yield f"over 0 a=aaa,b=bb,c=c - - {first} {second}"
+    yield "over 2 a=aaa,b=bb,c=c - 8 3 3"
 
 
 # ---- the rows

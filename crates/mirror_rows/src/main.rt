@@ -1,6 +1,7 @@
 //! Fetches trees from peers in memory: a row a line on standard input, and an answer a line on standard output.
 //!
 //!     MOST FAILS REPLIES [MOST FAILS REPLIES]
+//!     over BUFFER TREE TURNS FAILS MOST [MOST]
 //!
 //! A row is one fetch into an empty copy, or two, the second into what the first left; each from a peer of its own. MOST
 //! is how many requests are allowed, FAILS the numbers of the calls that fail with `,` between, or `-`. REPLIES have `;`
@@ -8,11 +9,18 @@
 //! has is percent-encoded, as it comes and as it is printed. A body `*COUNT` is so many `x`; a body `@LINK,LINK..` is the
 //! page of a directory whose rows have these links. In a link `+COUNT+` is so many `n`.
 //!
+//! Behind `over` the peers are players over one disk in memory, which read BUFFER bytes at once, or 0 for the default. The
+//! disk has the entries of TREE with `,` between: `PATH/` is a directory, and `PATH=BODY` a file. Each request makes a turn;
+//! TURNS have `;` between, or are `-`, and their changes `cut:PATH:COUNT`, `remove:PATH` and `file:PATH:BODY` have `,`
+//! between. FAILS are numbers of the disk's calls then.
+//!
 //! A fetch is answered by the requests made, each with its fields; how it ended; the directories; and the files, each
 //! with its tag, its length and its bytes. A line that begins with `#` is written as it stands.
 #![tactic(auto)]
 
+mod disks;
 mod noted;
+mod over;
 mod ready;
 mod told;
 
@@ -21,6 +29,7 @@ ghost use Rattle.dav_fetch.specs.Copy.{IsCopy};
 use dav_fetch::{Copied, MemPeer, fetch};
 use dav_rows::{Line, word};
 use noted::Noted;
+use over::answer_over;
 use ready::{fails, replies};
 use std::alloc::Global;
 use std::io;
@@ -51,6 +60,7 @@ fn fetched(alloc: Global, line: &mut Line, copy: &mut Copied, asked: Asked<'_>)
     let mut peer = Noted::new(alloc, MemPeer::new(alloc, replies, fails));
     let ended = fetch(alloc, &mut peer, copy, most);
     line.add(peer.asked());
+    let _ = peer.into_peer();
     tell_end(line, ended);
     tell_copy(line, copy);
 }
@@ -58,6 +68,10 @@ fn fetched(alloc: Global, line: &mut Line, copy: &mut Copied, asked: Asked<'_>)
 fn answer(alloc: Global, line: &mut Line, row: &str) {
     if row.starts_with('#') {
         line.add(row);
+        return;
+    }
+    if row.starts_with("over ") {
+        answer_over(alloc, line, row);
         return;
     }
     let mut copy = Copied::empty(alloc);

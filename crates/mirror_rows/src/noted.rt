@@ -1,21 +1,20 @@
 //! A peer that notes what it is asked for.
 use dav_core::DavPath;
-use dav_fetch::{Got, MemPeer, Peer, PeerFault};
+use dav_fetch::{Got, Peer, PeerFault};
 use dav_io::Fields;
 use dav_rows::Line;
 use percent_encoding::CONTROLS;
 use std::alloc::Global;
 
 /// A peer, and the requests that it got.
-#[derive(Drop)]
-pub struct Noted {
-    peer: MemPeer,
+pub struct Noted<P: Peer> {
+    peer: P,
     line: Line,
 }
 
-impl Noted {
+impl<P: Peer> Noted<P> {
     /// The peer, of which nothing was asked yet.
-    pub fn new(alloc: Global, peer: MemPeer) -> Self {
+    pub fn new(alloc: Global, peer: P) -> Self {
         Noted {
             peer,
             line: Line::new(alloc),
@@ -25,6 +24,12 @@ impl Noted {
     /// What it was asked for.
     pub fn asked(&self) -> &str {
         self.line.as_str()
+    }
+
+    /// Gives the peer back.
+    pub fn into_peer(self) -> P {
+        let Noted { peer, line: _ } = self;
+        peer
     }
 }
 
@@ -50,10 +55,12 @@ fn note(line: &mut Line, path: &DavPath, fields: &Fields) {
     line.add("]");
 }
 
-impl Peer for Noted {
-    ghost state = { λ n. ⟦<MemPeer as Peer>⟧.state n.peer };
+impl<P: Peer> Peer for Noted<P> {
+    ghost state = { λ n. P.state n.peer };
 
-    ghost calls = { λ n. ⟦<MemPeer as Peer>⟧.calls n.peer };
+    ghost calls = { λ n. P.calls n.peer };
+
+    ghost loan = { λ n. P.loan n.peer };
 
     fn get(&mut self, path: &DavPath, fields: &Fields) -> Result<Got, PeerFault> {
         note(&mut self.line, path, fields);

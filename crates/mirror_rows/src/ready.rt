@@ -56,7 +56,8 @@ fn page(alloc: Global, links: &str) -> Result<Vec<u8>, NoMemory> {
     Ok(bytes)
 }
 
-fn body(alloc: Global, text: &str) -> Result<Vec<u8>, NoMemory> {
+/// The bytes of a body.
+pub fn body(alloc: Global, text: &str) -> Result<Vec<u8>, NoMemory> {
     if let Some(links) = text.strip_prefix("@") {
         return page(alloc, links);
     }
