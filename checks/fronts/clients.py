@@ -174,11 +174,13 @@ def is_refused(door, source, refusal):
 
 def try_slow(what, door, counts, tally, refusal=None):
     """While so many readers, senders and heads of one address are slow, another address is answered within a second. It is
-    the median of five, behind a first that waits until all have begun; where the machine has so much other work that a GET
-    takes long without them, it may take three times as long again. The address of the slow ones is refused, if it is to be."""
+    the median of five, once all have begun, which takes a slow machine a while; where a GET takes long without them it may
+    take three times as long again. The address of the slow ones is refused, if it is to be."""
     before = sorted(gets_ten(door, "127.0.0.3", 20)[1] for _ in range(5))[2]
     with Slow(door, *counts) as they:
-        found = [gets_ten(door, "127.0.0.3", 60)]
+        end = time.monotonic() + 60
+        while time.monotonic() < end and not (found := [gets_ten(door, "127.0.0.3", 60)])[0][1] < 1:
+            time.sleep(0.5)
         while len(found) < 6 and found[-1][0]:
             found.append(gets_ten(door, "127.0.0.3", 20))
         if refusal:
