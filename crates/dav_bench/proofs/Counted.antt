@@ -10,7 +10,7 @@ use Rattle.dav_model.specs.Play.{PlayedOn, Stage}
 use Rattle.dav_bench.specs.declared.counting.Counts.{Counts}
 use Rattle.dav_bench.specs.Asking.{AreStepsFor, IsReady, IsSpared}
 use Rattle.dav_bench.specs.Counting.{HasPlace, added, all_counted, nothing_counted}
-use Rattle.dav_bench.specs.Report.{lengths}
+use Rattle.dav_bench.specs.Totals.{lengths}
 use Rattle.dav_bench.specs.Tree.{length_of, letters, upto}
 use Rattle.dav_bench.proofs.Due.{letters_length}
 use Rattle.dav_bench.proofs.Moves.{ThreeMoves, three_moves}

@@ -1,6 +1,6 @@
 -- The lengths of all files, summed.
 use Rattle.std.proofs.Common.{◌≡◌, ℕ, zero, suc, ◌+◌, ◌*◌, sum, map, sym, ap, ◌∙◌, arith, add-one}
-use Rattle.dav_bench.specs.Report.{lengths}
+use Rattle.dav_bench.specs.Totals.{lengths}
 use Rattle.dav_bench.specs.Tree.{length_of, upto}
 use Rattle.dav_bench.proofs.Counted.{below_sum, bytes_below, dir_sum, none_below, none_summed}
 

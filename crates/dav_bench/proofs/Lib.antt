@@ -11,5 +11,6 @@ pub mod Played
 pub mod Uris
 pub mod Made
 pub mod Counted
+pub mod Rounds
 pub mod Formula
 pub mod Reported

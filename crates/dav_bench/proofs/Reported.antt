@@ -1,15 +1,19 @@
 -- What was counted is what the large input has, and its lines are written.
-use Rattle.std.proofs.Common.{◌≡◌, ℕ, ◌+◌, ◌*◌, List, ◌++◌, take, sum, Some, Result, Err, refl, sym, ap, ap₂, subst, ◌∙◌, arith, append-nil}
+use Rattle.std.proofs.Common.{◌≡◌, ℕ, ◌+◌, ◌*◌, List, ◌++◌, take, sum, Some, Result, Ok, Err, IfOk, refl, sym, ap, ap₂, subst, ◌∙◌, arith, append-nil}
 use Rattle.dav_io.specs.Outside.{Stream}
 use Rattle.dav_io.specs.declared.failure.NoMemory.{NoMemory}
-use Rattle.dav_io.proofs.ToldLemmas.{both_map, both_same}
+use Rattle.dav_io.proofs.ToldLemmas.{both_same}
 use Rattle.dav_core.specs.World.{World}
 use Rattle.dav_disk.specs.declared.sure_disk.SureDisk.{SureDisk}
 use Rattle.dav_disk.specs.Memory.{HasRoom}
-use Rattle.dav_disk.specs.Sure.{sure_state, sure_world}
+use Rattle.dav_disk.specs.Sure.{listings_of, sure_state, sure_world}
+use Rattle.dav_model.specs.Play.{Stage}
 use Rattle.dav_bench.specs.declared.counting.Counts.{Counts}
 use Rattle.dav_bench.specs.Counting.{added, nothing_counted, totals_of}
-use Rattle.dav_bench.specs.Report.{Benches, FrontWritten, Reports, Totals, Wrote, lengths, lines, totals}
+use Rattle.dav_bench.specs.Asking.{IsReady}
+use Rattle.dav_bench.specs.Report.{Benches, FrontWritten, Reports}
+use Rattle.dav_bench.specs.Running.{AskedFor, both_rounds}
+use Rattle.dav_bench.specs.Totals.{Totals, lengths, lines, totals}
 use Rattle.std.proofs.lemmas.Option.{same_Some}
 
 same_totals : (t u : Totals) → t.requests ≡ u.requests → t.ok ≡ u.ok → t.pieces ≡ u.pieces → t.bytes ≡ u.bytes → t.listings ≡ u.listings → t ≡ u
@@ -27,29 +31,45 @@ totals_are m listings c e =
     ∙ same_totals (totals_of (added (16 * m) (2 * sum (lengths m)) nothing_counted) listings) (totals m listings)
     (from_none (16 * m)) (from_none (16 * m)) (from_none (16 * m)) (from_none (2 * sum (lengths m))) refl
 
-wrote : (m listings : ℕ) (result : Result ℕ NoMemory) (bytes : List ℕ) → bytes ≡ lines (totals m listings) → (v w : List ℕ)
-    → FrontWritten bytes result v w → Wrote m result v w
-wrote m listings result bytes e v w (count, front, whole) = record {
-  listings = listings;
-  count = count;
-  front = front ∙ ap (λ z. v ++ take count z) e;
-  whole = λ went. whole went ∙ ap (λ z. v ++ z) e;
-}
-
-pub benched : (m listings : ℕ) (c : Counts) (old : Stream) (result : Result ℕ NoMemory) (new : Stream) → c ≡ added (16 * m) (2 * sum (lengths m)) nothing_counted
-    → Reports (lines (totals_of c listings)) old result new → Benches m old result new
-benched m listings c old result new e r = record {
-  counts = r.counts;
-  status = r.status;
-  told = both_map old.bytes new.bytes (FrontWritten (lines (totals_of c listings)) result) (Wrote m result) (wrote m listings result (lines (totals_of c listings)) (ap lines (totals_are m listings c e))) r.told;
-}
-
-none_written : (m : ℕ) (e : NoMemory) (v : List ℕ) → Wrote m (Err e) v v
-none_written m e v = record { listings = 0; count = 0; front = sym (append-nil v); whole = λ went. cc }
+pub benched : (m : ℕ) (c : Counts) (first last : SureDisk) (a b : Stage) (old : Stream) (result : Result ℕ NoMemory) (new : Stream)
+    → c ≡ added (16 * m) (2 * sum (lengths m)) nothing_counted → IsReady m a → a.at ≡ sure_state first → listings_of first ≡ 0
+    → AskedFor (both_rounds m) a b nothing_counted c → b.at ≡ sure_state last
+    → Reports (lines (totals_of c (listings_of last))) old result new → Benches m old result new
+benched m c first last a b old result new e ready begins fresh asked ends r =
+    let same : totals_of c (listings_of last) ≡ totals m (listings_of last) = totals_are m (listings_of last) c e in
+    record {
+      listings = listings_of last;
+      ran = for_each result (record {
+        first = first;
+        last = last;
+        a = a;
+        b = b;
+        counts = c;
+        ready = ready;
+        begins = begins;
+        fresh = fresh;
+        asked = asked;
+        ends = ends;
+        are = sym same;
+      });
+      reports = subst (λ z. Reports (lines z) old result new) same r;
+    }
+  where
+    for_each : (result : Result ℕ NoMemory) {R : Type 0} → R → IfOk result (λ status. R)
+    for_each (Ok status) r = r
+    for_each (Err e) r = tt
 
 -- nothing was written where memory was refused before
 pub benched_none : (m : ℕ) (e : NoMemory) (s : Stream) → Benches m s (Err e) s
-benched_none m e s = record { counts = omega arith; status = tt; told = both_same s.bytes s.bytes (Wrote m (Err e)) (none_written m e) refl }
+benched_none m e s = record {
+  listings = 0;
+  ran = tt;
+  reports = record {
+    counts = omega arith;
+    status = tt;
+    told = both_same s.bytes s.bytes (FrontWritten (lines (totals m 0)) (Err e)) (λ v. (0, sym (append-nil v), λ went. cc)) refl;
+  };
+}
 
 spared_disk : (d : SureDisk) → (HasRoom (sure_world d) → (sure_state d).faults ≡ 0) → (w : World) → (sure_state d).told ≡ Some w → HasRoom w → (sure_state d).faults ≡ 0
 spared_disk d law w told room = law (subst HasRoom (sym (same_Some (sure_world d) w told)) room)

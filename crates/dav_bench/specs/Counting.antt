@@ -3,7 +3,7 @@ use Rattle.std.specs.Prelude.{◌≤◌, ◌+◌, ◌*◌, ◌==◌, ℕ, min, c
 use Rattle.dav_io.specs.Counts.{greatest, one_more}
 use Rattle.dav_model.specs.declared.answer.Answer.{Answer}
 use Rattle.dav_model.specs.declared.answer.Answer.TheVariants.{Reply, Piece, End, Broken, Done}
-use Rattle.dav_bench.specs.Report.{Totals}
+use Rattle.dav_bench.specs.Totals.{Totals}
 use Rattle.dav_bench.specs.declared.counting.Counts.{Counts}
 
 -- a reply is a request that was answered, and each piece has its bytes

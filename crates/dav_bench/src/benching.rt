@@ -1,6 +1,6 @@
 // The large input that is made from a number, played, counted and told.
 ghost use Rattle.std.specs.Prelude.{◌≡◌, ◌≤◌, ◌+◌, ℕ};
-ghost use Rattle.dav_disk.specs.Sure.{sure_world};
+ghost use Rattle.dav_disk.specs.Sure.{sure_state, sure_world};
 ghost use Rattle.dav_handler.specs.Player.{playing_of, stage_of};
 ghost use Rattle.dav_bench.specs.Asking.{IsReady};
 ghost use Rattle.dav_bench.specs.Report.{Benches};
@@ -17,6 +17,7 @@ use std::alloc::Global;
 // A player over a disk, by which names fold. Nothing is set, and it gave no reply yet.
 fn player_over<R: Remember + Drop>(alloc: Global, disk: SureDisk, memory: R) -> Player<SureDisk, R>
     ensures ready { (m : ℕ) → IsBench m (sure_world disk) → IsReady m (stage_of result) }
+    ensures begins { (stage_of result).at ≡ sure_state disk }
     ensures replies { (playing_of result).replies ≡ 0 }
 {
     let store = LocalFs::new(disk, memory, true, true, false);
@@ -27,7 +28,8 @@ fn player_over<R: Remember + Drop>(alloc: Global, disk: SureDisk, memory: R) -> 
 /// Makes a large input from a number, plays it over a disk of its own, and writes what was counted: status 0, or 4
 /// where the sink failed. There are eight directories `Dir0`, `Dir1` and so on, each with one file more than the
 /// number: `File0`, `File1` and so on. File j of directory i has 10(i+1)+j bytes. Twice each file is asked for, by a
-/// name that folds like its own, and the body of the answer is polled twice.
+/// name that folds like its own, and the body of the answer is polled twice. Wherever there is a status that run was
+/// made, and the five lines are the counts of its answers and the listings of its disk.
 pub fn bench<R: Remember + Drop, K: Sink>(
     alloc: Global,
     seed: u32,

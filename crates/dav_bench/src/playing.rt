@@ -1,9 +1,10 @@
 // The steps of the large input are played, a file at a time, and counted.
-ghost use Rattle.std.specs.Prelude.{◌≡◌, ◌<◌, ◌≤◌, ◌+◌, ◌*◌, IfOk, OnOk, map, sum};
+ghost use Rattle.std.specs.Prelude.{◌≡◌, ◌<◌, ◌≤◌, ◌+◌, ◌*◌, ◌∷◌, [], IfOk, OnOk, map, sum};
 ghost use Rattle.dav_handler.specs.Player.{playing_of, stage_of};
 ghost use Rattle.dav_bench.specs.Asking.{AreStepsFor, IsReady};
 ghost use Rattle.dav_bench.specs.Counting.{HasPlace, added, nothing_counted};
-ghost use Rattle.dav_bench.specs.Report.{lengths};
+ghost use Rattle.dav_bench.specs.Running.{AskedFor, both_rounds, place_of, places_below, places_of};
+ghost use Rattle.dav_bench.specs.Totals.{lengths};
 ghost use Rattle.dav_bench.specs.Tree.{length_of, upto};
 
 use crate::asking::request_for;
@@ -43,6 +44,8 @@ fn ask<R: Remember>(
     ensures ready { OnOk result (IsReady m (stage_of player.new)) }
     ensures replies { OnOk result ((playing_of player.new).replies ≡ (playing_of player.old).replies + 1) }
     ensures counts { OnOk result (counts.new ≡ added 1 (length_of i j) counts.old) }
+    ensures asked { OnOk result (AskedFor (place_of i j ∷ []) (stage_of player.old) (stage_of player.new) counts.old
+        counts.new) }
 {
     let steps = steps_for(alloc, i, j, player.replies())?;
     let mut answers = Vec::new(alloc);
@@ -61,6 +64,7 @@ fn ask_dir<R: Remember>(
     counts: &mut Counts,
 ) -> Result<(), NoMemory>
     requires m { m ≤ 400 }
+    requires some { 1 ≤ m }
     requires i { i < 8 }
     requires ready { IsReady m (stage_of player.old) }
     requires replies { (playing_of player.old).replies + m ≤ 6400 }
@@ -68,6 +72,8 @@ fn ask_dir<R: Remember>(
     ensures ready { OnOk result (IsReady m (stage_of player.new)) }
     ensures replies { OnOk result ((playing_of player.new).replies ≡ (playing_of player.old).replies + m) }
     ensures counts { OnOk result (counts.new ≡ added m (sum (map (length_of i) (upto m))) counts.old) }
+    ensures asked { OnOk result (AskedFor (places_of i m) (stage_of player.old) (stage_of player.new) counts.old
+        counts.new) }
 {
     for j in 0..m {
         ask(alloc, player, m, i, j, counts)?;
@@ -83,12 +89,15 @@ fn ask_all<R: Remember>(
     counts: &mut Counts,
 ) -> Result<(), NoMemory>
     requires m { m ≤ 400 }
+    requires some { 1 ≤ m }
     requires ready { IsReady m (stage_of player.old) }
     requires replies { (playing_of player.old).replies + 8 * m ≤ 6400 }
     requires place { HasPlace (8 * m) counts.old }
     ensures ready { OnOk result (IsReady m (stage_of player.new)) }
     ensures replies { OnOk result ((playing_of player.new).replies ≡ (playing_of player.old).replies + 8 * m) }
     ensures counts { OnOk result (counts.new ≡ added (8 * m) (sum (lengths m)) counts.old) }
+    ensures asked { OnOk result (AskedFor (places_below m 8) (stage_of player.old) (stage_of player.new) counts.old
+        counts.new) }
 {
     for i in 0..8u64 {
         ask_dir(alloc, player, m, i, counts)?;
@@ -103,9 +112,12 @@ pub fn counts_over<R: Remember>(
     m: u64,
 ) -> Result<Counts, NoMemory>
     requires m { m ≤ 400 }
+    requires some { 1 ≤ m }
     requires ready { IsReady m (stage_of player.old) }
     requires replies { (playing_of player.old).replies ≡ 0 }
-    ensures { IfOk result (λ counts. counts ≡ added (16 * m) (2 * sum (lengths m)) nothing_counted) }
+    ensures counts { IfOk result (λ counts. counts ≡ added (16 * m) (2 * sum (lengths m)) nothing_counted) }
+    ensures asked { IfOk result (λ counts. AskedFor (both_rounds m) (stage_of player.old) (stage_of player.new)
+        nothing_counted counts) }
 {
     let mut counts = Counts::none();
     ask_all(alloc, player, m, &mut counts)?;

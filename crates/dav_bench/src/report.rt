@@ -2,7 +2,8 @@
 ghost use Rattle.std.specs.Prelude.{◌≡◌, IfOk, string_bytes};
 ghost use Rattle.dav_disk.specs.Sure.{listings_of};
 ghost use Rattle.dav_bench.specs.Counting.{totals_of};
-ghost use Rattle.dav_bench.specs.Report.{Reports, lines};
+ghost use Rattle.dav_bench.specs.Report.{Reports};
+ghost use Rattle.dav_bench.specs.Totals.{lines};
 
 use crate::counting::Counts;
 use dav_disk::SureDisk;

@@ -1,4 +1,6 @@
-use Rattle.std.proofs.Common.{◌+◌, subst}
+use Rattle.std.proofs.Common.{◌≡◌, ◌+◌, ◌∙◌, ap, subst}
+use Rattle.dav_disk.specs.Sure.{sure_state}
+use Rattle.dav_handler.specs.Player.{stage_of}
 use Rattle.dav_bench.specs.Report.{Benches}
 use Rattle.dav_bench.proofs.Reported.{benched, benched_none}
 use Rattle.dav_bench.proofs.benching.bench.Goals as goal

@@ -7,4 +7,4 @@ use Rattle.dav_bench.proofs.making.add_files.Goals as goal
 pub returns : goal.returns
 returns c =
     let all : c.loop-j.j ≡ c.args.m = omega arith in
-    dir_is_done c.args.m c.args.i (sure_world c.loop-j.disk) (subst (λ j. IsSoFar 8 c.args.m c.args.i j (sure_world c.loop-j.disk)) all c.loop-j.invariant)
+    dir_is_done c.args.m c.args.i (sure_world c.loop-j.disk) (subst (λ j. IsSoFar 8 c.args.m c.args.i j (sure_world c.loop-j.disk)) all c.loop-j.invariant.made)

@@ -10,4 +10,4 @@ add_dirs-requires c = new_made c.args.m c.in_ok-disk.disk c.in_ok-disk.ensures.m
 pub returns : goal.returns
 returns c =
     let all : c.loop-i.i ≡ 8 = omega arith in
-    all_is_made c.args.m (sure_world c.loop-i.disk) c.requires (subst (λ i. IsSoFar 8 c.args.m i 0 (sure_world c.loop-i.disk)) all c.loop-i.invariant)
+    all_is_made c.args.m (sure_world c.loop-i.disk) c.requires (subst (λ i. IsSoFar 8 c.args.m i 0 (sure_world c.loop-i.disk)) all c.loop-i.invariant.made)

@@ -1,9 +1,12 @@
-use Rattle.std.proofs.Common.{arith}
+use Rattle.std.proofs.Common.{◌≡◌, inl, refl, arith, subst}
+use Rattle.dav_handler.specs.Player.{stage_of}
+use Rattle.dav_bench.specs.Running.{AskedFor, places_of}
 use Rattle.dav_bench.proofs.Counted.{dir_begins, dir_goes_on, dir_has_place}
+use Rattle.dav_bench.proofs.Rounds.{all_of_dir, dir_asked, none_of_dir}
 use Rattle.dav_bench.proofs.playing.ask_dir.Goals as goal
 
 pub loop-j-init : goal.loop-j-init
-loop-j-init g c = record { ready = c.requires.ready; replies = omega arith; counts = dir_begins c.args.i c.args.counts.now }
+loop-j-init g c = record { ready = c.requires.ready; replies = omega arith; counts = dir_begins c.args.i c.args.counts.now; asked = inl (none_of_dir c.args.i, refl, refl) }
 
 pub ask-requires-clause-place : goal.ask-requires-clause-place
 ask-requires-clause-place g c =
@@ -17,4 +20,6 @@ loop-j-preserved g c =
       ready = c.in_ok-ask.ensures.ready;
       replies = omega arith;
       counts = dir_goes_on c.args.i c.loop-j.j c.args.counts.now c.loop-j.counts c.ask.new.counts c.loop-j.invariant.counts c.in_ok-ask.ensures.counts;
+      asked = dir_asked c.args.i c.loop-j.j (stage_of c.args.player.now) (stage_of c.loop-j.player) (stage_of c.ask.new.player) c.args.counts.now c.loop-j.counts c.ask.new.counts
+          c.loop-j.invariant.asked before c.in_ok-ask.ensures.asked;
     }

@@ -1,6 +1,6 @@
 use Rattle.std.proofs.Common.{ap, ◌∙◌}
 use Rattle.dav_bench.specs.Counting.{added}
-use Rattle.dav_bench.specs.Report.{lengths}
+use Rattle.dav_bench.specs.Totals.{lengths}
 use Rattle.std.proofs.Common.{sum, ◌*◌}
 use Rattle.dav_bench.proofs.Counted.{second_round}
 use Rattle.dav_bench.proofs.playing.counts_over.Goals as goal
