@@ -8,7 +8,8 @@ Looked at is each text between backticks in README.md and in the pages of docs/ 
 other programs stand in `OF_OTHERS`, and one of these that no page cites any more is told as well.
 
 Names behind that of a function and a colon, or in brackets behind it, are its clauses, and so is a name that is said to be `of` it:
-each has to be one of those that `checks/clauses.py` prints, or a function or a crate itself.
+each has to be one of those that `checks/clauses.py` prints, or a function or a crate itself. And each crate of crates.txt has to stand
+in README.md and in docs/MAP.md.
 """
 import collections
 import os
@@ -94,6 +95,14 @@ def lost_clauses(page, named):
                 yield number, function, clause
 
 
+def lost_crates():
+    """Each crate that one of the two pages of all crates doesn't name, with the page."""
+    crates = [line.split(":")[0].split()[0] for line in text_of("crates.txt").split("\n") if ":" in line]
+    for page in ("README.md", "docs/MAP.md"):
+        text = text_of(page)
+        yield from ((page, crate) for crate in crates if f"`{crate}`" not in text)
+
+
 def main():
     paths = tracked_files()
     borne, named = borne_by(paths), clauses_by_function()
@@ -109,6 +118,9 @@ def main():
         for number, function, clause in lost_clauses(page, named):
             count += 1
             print(f"{page}:{number}: {function}: it has no clause {clause}")
+    for page, crate in lost_crates():
+        count += 1
+        print(f"{page}: it doesn't name the crate {crate}")
     for word in sorted(OF_OTHERS - met):
         count += 1
         print(f"{SELF}: {word}: no page cites it, or something bears it")
