@@ -1,9 +1,10 @@
 #!/usr/bin/env python3
-"""Prints what the crates promise: each `pub fn`, each method of a trait and each ghost member of one, with its clauses.
+"""Prints what the crates promise: each `pub fn`, each method of a trait and each ghost member of one, with its clauses, and
+each method by which a type has a trait, where it has clauses of its own.
 
     python3 checks/clauses.py [CRATE..]                   all of them, in the order of their names
-    python3 checks/clauses.py --markdown [CRATE..]        the same as a page: a part for each crate, with the first comment of
-                                                          each function; those without a clause are named together
+    python3 checks/clauses.py --markdown [CRATE..]        the same as a page: a part for each crate, with the comments of the crate
+                                                          and of each function; those without a clause are named together
     python3 checks/clauses.py --against REV [CRATE..]     those whose clauses are others than at REV: `-` before, `+` now
 
 Words stand one space apart, so that a clause that was only wrapped anew stays the same. Two lists may be compared by `diff`.
@@ -143,7 +144,7 @@ def members(source, at, end, owner, in_trait, found):
             line = max(text.rfind(it, 0, item.start()) for it in "\n;}{") + 1
             is_public = re.search(r"\bpub\s+(const\s+|unsafe\s+)*$", text[line:item.start()])
             promise, body = function(source, owner, at)
-            if in_trait or is_public:
+            if in_trait or is_public or " for " in owner and promise.clauses:
                 found.append(promise)
             at = end_of(text, body) if text[body] == "{" else body
 
@@ -205,12 +206,22 @@ def print_promise(name, promise):
     print("```")
 
 
-def print_markdown(now):
+def comment_of_crate(sources, crate):
+    """The first paragraph of the comment at the head of a crate."""
+    said = []
+    for line in (sources.get(f"crates/{crate}/src/lib.rt") or sources.get(f"crates/{crate}/src/main.rt") or "").split("\n"):
+        if not line.startswith("//! "):
+            break
+        said.append(line[4:].strip())
+    return " ".join(said)
+
+
+def print_markdown(sources, now):
     print("# What is promised, crate by crate\n")
     print("Made by `checks/clauses.py --markdown`. How a clause is read stands in `docs/THEOREM.md`.")
     for crate in sorted({name.partition("::")[0] for name in now}):
         own = [name for name in sorted(now) if name.partition("::")[0] == crate]
-        print(f"\n## {crate}")
+        print(f"\n## {crate}\n\n{comment_of_crate(sources, crate)}")
         for name in own:
             if now[name].clauses:
                 print_promise(name, now[name])
@@ -240,11 +251,12 @@ def main():
     parser.add_argument("--markdown", action="store_true", help="as a page, with comments")
     parser.add_argument("crates", metavar="CRATE", nargs="*", help="the crates; all of them where none is named")
     args = parser.parse_args()
-    now = promises(of_folder(), args.crates)
+    sources = of_folder()
+    now = promises(sources, args.crates)
     if args.against:
         print_changed(promises(of_revision(args.against), args.crates), now)
     elif args.markdown:
-        print_markdown(now)
+        print_markdown(sources, now)
     else:
         print_all(now)
 

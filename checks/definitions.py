@@ -1,5 +1,6 @@
 #!/usr/bin/env python3
-"""Prints where the definitions of right answers stand: each file of `crates/*/specs` with its first comment, by crate.
+"""Prints where the definitions of right answers stand: each file of `crates/*/specs` with its first comment, by crate, behind
+those that it uses.
 
     python3 checks/definitions.py [CRATE..]           as a page: all crates, or these
     python3 checks/definitions.py --all [CRATE..]     the files of code and of proofs as well, those that have a first comment
@@ -16,6 +17,7 @@ ROOT = os.path.dirname(os.path.dirname(os.path.abspath(__file__)))
 CRATES = os.path.join(ROOT, "crates")
 DEFINITION = re.compile(r"^(?:unfoldable |abbrev )*(?:pub )?(?:(?:record|data) )?(?:pub )?(\w+)\b[^:=]*:")
 PART = re.compile(r"^  (?:pub )?(\w+) :")
+USED = re.compile(r"^use Rattle\.(\w+)\.specs\.(\w+)\.", re.M)
 
 
 def files_below(crate, folder, ending):
@@ -28,6 +30,23 @@ def files_below(crate, folder, ending):
 def files_of(crate):
     """The files of definitions of a crate, without the list of its parts."""
     return [path for path in files_below(crate, "specs", ".antt") if os.path.basename(path) != "Lib.antt"]
+
+
+def in_order(crate):
+    """The files of definitions of a crate, each behind those of the crate that it uses."""
+    by_name = {os.path.basename(path)[:-5]: path for path in files_of(crate)}
+    placed = []
+
+    def place(name, above):
+        if name in by_name and by_name[name] not in placed and name not in above:
+            for used in USED.findall("\n".join(lines_of(by_name[name]))):
+                if used[0] == crate:
+                    place(used[1], above | {name})
+            placed.append(by_name[name])
+
+    for name in by_name:
+        place(name, frozenset())
+    return placed + [path for path in files_of(crate) if path not in placed]
 
 
 def lines_of(path):
@@ -102,7 +121,7 @@ def print_crates(crates, with_all):
     for crate in crates:
         if files_of(crate) or with_all:
             print(f"\n## {crate}\n")
-        print_files(crate, "specs", files_of(crate))
+        print_files(crate, "specs", in_order(crate))
         for folder, ending in (("src", ".rt"), ("proofs", ".antt")) if with_all else ():
             paths = [path for path in files_below(crate, folder, ending) if first_comment(path)]
             if paths:
