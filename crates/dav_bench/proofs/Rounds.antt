@@ -10,7 +10,7 @@ use Rattle.dav_model.proofs.JoiningLemmas.{played_join}
 use Rattle.dav_model.proofs.Denied.{played_on}
 use Rattle.dav_bench.specs.declared.counting.Counts.{Counts}
 use Rattle.dav_bench.specs.Asking.{AreStepsFor}
-use Rattle.dav_bench.specs.Counting.{all_counted}
+use Rattle.dav_bench.specs.Counting.{all_counted, counted}
 use Rattle.dav_bench.specs.Running.{AreStepsForAll, AskedFor, Place, place_of, places_below, places_of}
 use Rattle.dav_bench.specs.Tree.{upto}
 
@@ -52,9 +52,9 @@ below_length m (suc n) =
 
 -- ---- joining
 
-counted_join : (c : Counts) (xs ys : List Answer) → all_counted c (xs ++ ys) ≡ all_counted (all_counted c xs) ys
-counted_join c [] ys = refl
-counted_join c (x ∷ xs) ys = counted_join _ xs ys
+counted_join : (xs ys : List Answer) (c : Counts) → all_counted c (xs ++ ys) ≡ all_counted (all_counted c xs) ys
+counted_join [] ys c = refl
+counted_join (x ∷ xs) ys c = counted_join xs ys (counted c x)
 
 steps_join : (xs ys : List Place) (n : ℕ) (s t : List Step) → AreStepsForAll xs n s → AreStepsForAll ys (n + length xs) t → AreStepsForAll (xs ++ ys) n (s ++ t)
 steps_join [] ys n s t e more =
@@ -76,7 +76,7 @@ asked_then xs ys a m b c d e p same q = record {
   are = steps_join xs ys a.playing.replies p.steps q.steps p.are (subst (λ z. AreStepsForAll ys z q.steps) same q.are);
   played = played_on (p.played.trail ++ q.played.trail) a (p.steps ++ q.steps) [] (p.answers ++ q.answers) (Ok tt) b
       (played_join p.played.trail q.played.trail a m b p.steps q.steps [] p.answers q.answers (Ok tt) p.played.played q.played.played);
-  counted = q.counted ∙ (ap (λ z. all_counted z q.answers) p.counted ∙ sym (counted_join c p.answers q.answers));
+  counted = q.counted ∙ (ap (λ z. all_counted z q.answers) p.counted ∙ sym (counted_join p.answers q.answers c));
 }
 
 -- None was asked for yet, or these were.

@@ -1,8 +1,8 @@
 use Rattle.std.proofs.Common.{◌≡◌, inl, refl, arith, subst}
 use Rattle.dav_handler.specs.Player.{stage_of}
-use Rattle.dav_bench.specs.Running.{AskedFor, places_of}
+use Rattle.dav_bench.specs.Running.{places_of}
 use Rattle.dav_bench.proofs.Counted.{dir_begins, dir_goes_on, dir_has_place}
-use Rattle.dav_bench.proofs.Rounds.{all_of_dir, dir_asked, none_of_dir}
+use Rattle.dav_bench.proofs.Rounds.{AskedSoFar, all_of_dir, dir_asked, none_of_dir}
 use Rattle.dav_bench.proofs.playing.ask_dir.Goals as goal
 
 pub loop-j-init : goal.loop-j-init
@@ -23,3 +23,9 @@ loop-j-preserved g c =
       asked = dir_asked c.args.i c.loop-j.j (stage_of c.args.player.now) (stage_of c.loop-j.player) (stage_of c.ask.new.player) c.args.counts.now c.loop-j.counts c.ask.new.counts
           c.loop-j.invariant.asked before c.in_ok-ask.ensures.asked;
     }
+
+pub returns-clause-asked : goal.returns-clause-asked
+returns-clause-asked g c =
+    let all : c.loop-j.j ≡ c.args.m = omega arith in
+    all_of_dir c.args.i c.args.m (stage_of c.args.player.now) (stage_of c.loop-j.player) c.args.counts.now c.loop-j.counts c.requires.some
+    (subst (λ n. AskedSoFar (places_of c.args.i n) (stage_of c.args.player.now) (stage_of c.loop-j.player) c.args.counts.now c.loop-j.counts) all c.loop-j.invariant.asked)
