@@ -4,7 +4,6 @@
 
 use dav_host::{HostDisk, StdSink, StdSource, SystemClock};
 use dav_io::NoMemory;
-
 use dav_serve::run::{Report, run};
 use std::io::ErrorKind;
 use std::process::ExitCode;
@@ -95,11 +94,7 @@ fn warn(rt: &HostRuntime, words: &[String]) {
 }
 
 // Makes the outside, and runs over it. What a fetch came to is reported.
-fn serve(
-    rt: &HostRuntime,
-    words: &[String],
-    report: &mut Option<Report>,
-) -> Result<u8, NoMemory> {
+fn serve(rt: &HostRuntime, words: &[String], report: &mut Option<Report>) -> Result<u8, NoMemory> {
     let mut disk = HostDisk::new(rt.alloc(), rt, root_of(words))?;
     let mut source = StdSource::new(rt.reader());
     let mut sink = StdSink::new(io::writer(rt));
