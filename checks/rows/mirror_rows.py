@@ -24,7 +24,13 @@ class Failed(Exception):
 
 
 class Ended(Exception):
-    """Why a fetch ended, as it is told."""
+    """Why a fetch ended: what went wrong, the path if there is one, and numbers."""
+
+    def told(self):
+        """As a row tells it: of too many bytes how many they are."""
+        what, path, *numbers = self.args
+        return " of ".join([" ".join(map(str, [what, *([shown(path)] if path is not None else []), *numbers[:1]])),
+                            *map(str, numbers[1:])])
 
 
 def escaped(text, more=b""):
@@ -144,28 +150,28 @@ def shown_path(names, is_dir):
 
 class Fetch:
     def __init__(self, copy, most, peer):
-        self.copy, self.most, self.peer, self.made = copy, most, peer, 0
+        self.copy, self.most, self.peer, self.made, self.ended = copy, most, peer, 0, None
 
     def may_ask(self, path):
         if self.made == self.most:
-            raise Ended(f"budget {self.made}")
+            raise Ended("budget", None, self.made)
         if len(link_of(path)) > LINK_MOST:
-            raise Ended(f"too long {shown(path)}")
+            raise Ended("too long", path)
 
     def page(self, names):
         path = shown_path(names, True)
         self.may_ask(path)
         status, _, body = self.peer.get(path, [])
         if status != 200:
-            raise Ended(f"refused {shown(path)} {status}")
+            raise Ended("refused", path, status)
         text = [b""]
         self.peer.read(PAGE_MOST + 1, text)
         if len(text[0]) > PAGE_MOST:
-            raise Ended(f"too long {shown(path)}")
+            raise Ended("too long", path)
         rows = rows_of(body)
         members = None if rows is None else [found(path, row) for row in rows]
         if members is None or None in members:
-            raise Ended(f"no page {shown(path)}")
+            raise Ended("no page", path)
         self.made += 1
         return members
 
@@ -201,7 +207,7 @@ class Fetch:
         announced = number(value_of(headers, "content-length"))
         if status == 200:
             if announced is None:
-                raise Ended(f"bad reply {shown(text)}")
+                raise Ended("bad reply", text)
             kept = [strong(value_of(headers, "etag")), announced, b""]
             due = announced
         elif status == 206 and awaits == "rest":
@@ -209,12 +215,12 @@ class Fetch:
             due = length - have
             span = b"bytes %d-%d/%d" % (have, length - 1, length)
             if value_of(headers, "etag") != kept[0] or value_of(headers, "content-range") != span or announced != due:
-                raise Ended(f"bad reply {shown(text)}")
+                raise Ended("bad reply", text)
         elif status == 304 and awaits == "same":
             self.made += 1
             return
         else:
-            raise Ended(f"refused {shown(text)} {status}")
+            raise Ended("refused", text, status)
         before, data = len(kept[2]), [kept[2]]
         self.copy[1][path] = kept
         try:
@@ -222,7 +228,7 @@ class Fetch:
         finally:
             kept[2] = data[0]
         if len(kept[2]) - before < due:
-            raise Ended(f"short {shown(text)} {len(kept[2]) - before} of {due}")
+            raise Ended("short", text, len(kept[2]) - before, due)
         self.made += 1
 
     def run(self):
@@ -235,7 +241,8 @@ class Fetch:
         except Failed:
             return "peer"
         except Ended as ended:
-            return str(ended)
+            self.ended = ended.args
+            return ended.told()
         return "ok"
 
 

@@ -51,13 +51,25 @@ class Played(Peer):
 
 
 def mirrored(disk):
-    """The status of a fetch, and what is written of it."""
+    """The status of a fetch, what is written of it, and what it came to, in words."""
     copy = [[], {}]
-    ended = Fetch(copy, MOST, Played(disk)).run()
+    fetch = Fetch(copy, MOST, Played(disk))
+    ended = fetch.run()
     if ended != "ok":
-        return 5 if ended == "peer" else 8, b""
+        return 5 if ended == "peer" else 8, b"", in_words(ended, fetch.ended)
     links = {path: link_of(b"".join(b"/" + name for name in path)) for path in copy[1]}
-    return 0, b"".join(b"%d %s\n" % (copy[1][path][1], links[path]) for path in sorted(copy[1]))
+    lines = b"".join(b"%d %s\n" % (copy[1][path][1], links[path]) for path in sorted(copy[1]))
+    return 0, lines, f"{len(links)} files, {sum(kept[1] for kept in copy[1].values())} bytes"
+
+
+def in_words(ended, why):
+    """Why a fetch ended, and at which path."""
+    if ended == "peer":
+        return "a call of the disk failed in a body"
+    what, path, *numbers = why
+    return {"refused": "{} is answered {}", "no page": "{} is answered by no index page", "too long": "{} is too long, or its page",
+            "bad reply": "{} is answered by what can't be of it", "short": "{} ends behind {} of {} bytes",
+            "budget": "more than {1} requests are due"}[what].format(path and link_of(path).decode(), *numbers)
 
 
 # ---- fetches from one disk, one after the other
@@ -204,6 +216,23 @@ def outside():
         yield row(*listed, *(f"turn {text}".strip() for text in turns))
 
 
+def reports():
+    """What a fetch came to: how many files and bytes, or at which path it ended and why. No other run reports."""
+    listed = SMALL + ("dir e", "file e/h")
+    yield "# What a fetch came to is reported, and nothing of other runs."
+    for parts in ((), listed, ("file %C3%A9%20b a", "file .h abc", "dir .d", "file .d/x ab")):
+        yield row(*parts) + " | report"
+    yield row(*listed, "room 12") + " | report"
+    for call in range(1, calls_of(listed) + 1):
+        yield row(*listed, f"disk-fails {call}") + " | report"
+    for turns in (("remove d,remove e,remove f",), ("", "remove d"), ("", "", "", "", "cut f 1"), ("", "", "", "remove f,dir f"),
+                  ("", "", "", "cut d/g 3"), ("", "", "", "", "remove f")):
+        yield row(*listed, *(f"turn {text}".strip() for text in turns)) + " | report"
+    yield row("file %25%C3%A9", "turn", "turn remove %25%C3%A9") + " | report"
+    for words in ("folder,serve", "folder,bench,0", "folder,mirror,y", ""):
+        yield f"words {words} | report"
+
+
 def calls_of(parts):
     """How many calls a disk with these gets where nothing fails."""
     disk = Disk()
@@ -241,6 +270,7 @@ def rows():
     yield "# Other words with `mirror` aren't understood."
     yield from refused_words()
     yield from outside()
+    yield from reports()
     yield "# Random trees."
     for seed in range(60):
         parts, lines = random_tree(seed)

@@ -69,6 +69,14 @@ def came_of(row, room=None):
     return status, sink.written, scene.disk
 
 
+def reported(row):
+    """What a fetch came to, in words."""
+    scene, report = Scene(row), []
+    sink = Sink(scene.room, scene.put, scene.sink_fails)
+    run(scene.words, Source(scene.input, scene.take, scene.source_fails), sink, scene.disk, scene.gain, report)
+    return report[0] if report else "no report"
+
+
 def rooms(row, whole):
     """With each smaller room: how many runs stop, and how many fill it with the front of what is written."""
     runs = [came_of(row, room) for room in range(len(whole))]
@@ -82,6 +90,8 @@ def wanted(row):
         return row
     status, written, disk = came_of(row)
     line = f"{status} {'asked' if disk.asked else 'unasked'} {spelt_in_runs(written)}"
+    if row.endswith("| report"):
+        line += " | " + reported(row)
     if row.endswith("| listings"):
         line += f" | {disk.listings} listings"
     return line + (rooms(row, written) if row.endswith("| rooms") else "")

@@ -182,9 +182,10 @@ def bench(seed, sink):
     return put_all(lines.encode(), sink)
 
 
-def mirror(disk, sink):
-    """The listing of a tree. Behind an error nothing is written."""
-    status, lines = mirrored(disk)
+def mirror(disk, sink, report):
+    """The listing of a tree. Behind an error nothing is written. What it came to is reported."""
+    status, lines, words = mirrored(disk)
+    report.append(words)
     return status or put_all(lines, sink)
 
 
@@ -197,13 +198,13 @@ def put_all(data, sink):
     return 0
 
 
-def run(words, source, sink, disk, gain=0):
-    """The status of a run."""
+def run(words, source, sink, disk, gain=0, report=None):
+    """The status of a run. What a fetch came to is added to a report."""
     said = words_of(words)
     if said is None:
         return 2
     if said.seed is not None:
         return bench(said.seed, sink)
     if said.mirrors:
-        return mirror(disk, sink)
+        return mirror(disk, sink, [] if report is None else report)
     return Run(said, source, sink, disk, gain).serve()

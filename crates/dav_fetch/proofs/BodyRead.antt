@@ -5,12 +5,17 @@ use Rattle.std.proofs.lemmas.List.{length-append, length-take, take_all, take-ta
 use Rattle.std.proofs.Math.Seq.{take-append-add}
 pub use Rattle.dav_io.proofs.Taken.{front as given_front}
 use Rattle.dav_io.proofs.ToldLemmas.{both_then, both_same}
+use Rattle.dav_core.specs.World.{SameBesidesOpens}
 use Rattle.dav_core.proofs.UnchangedLemmas.{same_besides, same_besides_then}
 use Rattle.dav_fetch.specs.Peer.{PeerState, Seen, Came, Gives}
 use Rattle.dav_fetch.specs.Reading.{ReadOn}
 
 pub read_none : (s : PeerState) → ReadOn s [] s
-read_none s = record { counts = omega arith; told = both_same s.told s.told (Came []) (λ v. (same_besides v.world, refl)) refl }
+read_none s = record {
+  counts = omega arith;
+  told = both_same s.told s.told (Came []) (λ v. (same_besides v.world, refl)) refl;
+  stands = both_same s.world s.world SameBesidesOpens same_besides refl;
+}
 
 came_then : (a b : List ℕ) (u v w : Seen) → Came a u v → Came b v w → Came (a ++ b) u w
 came_then a b u v w p q = (same_besides_then u.world v.world w.world p.0 q.0, p.1 ∙ ap (λ z. a ++ z) q.1 ∙ sym (append_assoc a b w.left))
@@ -20,6 +25,7 @@ read_more s m t came buffer n r g = record {
   counts = let a = r.counts in let b = g.counts in omega arith;
   told = both_then s.told m.told t.told (Came came) (λ v w. Came (take n buffer) v w × (n ≡ 0 → v.left ≡ [])) (Came (came ++ take n buffer))
       (λ u v w p q. came_then came (take n buffer) u v w p q.0) r.told g.is.1;
+  stands = both_then s.world m.world t.world SameBesidesOpens SameBesidesOpens SameBesidesOpens same_besides_then r.stands g.stands;
 }
 
 -- no more than is due is kept of a piece

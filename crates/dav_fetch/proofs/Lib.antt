@@ -34,3 +34,4 @@ pub mod Reached
 pub mod OneMirror
 pub mod Counting
 pub mod StillTold
+pub mod StillClear

@@ -42,16 +42,14 @@ meet w u n a b = record {
       ap bytes_or_none (sym (b.files number held).1 ∙ (a.files number held).1);
 }
 
-visit_told : (w : World) (s t : PeerState) (visit : Visit) → TellsStill w s → MeetsNone w.tree visit.path → Visited s visit t → IsToldOf w visit × TellsStill w t
-visit_told w s t visit still none visited = (by visit.world refl visited.is, after)
+-- where it tells the world behind the request
+pub told_at : (w : World) (s t : PeerState) (visit : Visit) (visited : Visited s visit t) → TellsStill w visited.at → IsToldOf w visit × TellsStill w t
+told_at w s t visit visited at = (by visit.world refl visited.is, after)
   where
-    at : TellsStill w visited.at
-    at = still_then w visit.path s visited.at visited.stays none still
-
     after : TellsStill w t
     after =
         let (v, told, came) = told_after visited.at.told t.told (Came visit.came) at.now visited.read.told at.told in
-        record { now = v; told = told; same = same_besides_then w at.now.world v.world at.same came.0; script = still.script }
+        record { now = v; told = told; same = same_besides_then w at.now.world v.world at.same came.0; script = at.script }
 
     by : (o : Option World) → visit.world ≡ o → RepliesIn o visit.path visit.asked (Rose s.faults visited.at.faults) visit.got visited.at.told → IsToldOf w visit
     by None e none = let clash : (◌≡◌ {A = Option Seen} (Some at.now) None) = sym at.told ∙ none in cc
@@ -59,6 +57,9 @@ visit_told w s t visit still none visited = (by visit.world refl visited.is, aft
         let both : Some at.now ≡ Some now = sym at.told ∙ told in
         let one : at.now ≡ now = cc in
         (u, e, meet w u now.world (subst (λ (x : Seen). SameBesidesOpens w x.world) one at.same) same)
+
+pub visit_told : (w : World) (s t : PeerState) (visit : Visit) → TellsStill w s → MeetsNone w.tree visit.path → Visited s visit t → IsToldOf w visit × TellsStill w t
+visit_told w s t visit still none visited = told_at w s t visit visited (still_then w visit.path s visited.at visited.stays none still)
 
 -- ---- what is met
 

@@ -1,8 +1,8 @@
 -- The worlds of a fetch, one batch of the outside's changes after the other.
-use Rattle.std.proofs.Common.{◌≡◌, inl, inr, ℕ, zero, suc, List, [], ◌∷◌, true, is_some, Option, None, Some, Result, Ok, Err, refl, sym, subst}
+use Rattle.std.proofs.Common.{◌≡◌, inl, inr, ℕ, zero, suc, List, [], ◌∷◌, true, is_some, Option, None, Some, Result, Ok, Err, refl, sym, ap, subst, ◌∙◌}
 use Rattle.dav_io.specs.Counts.{Rose}
 use Rattle.dav_io.proofs.ToldLemmas.{told_after}
-use Rattle.dav_core.specs.Changes.{turned}
+use Rattle.dav_core.specs.Changes.{turned, turned_by}
 use Rattle.dav_core.specs.Path.{Names}
 use Rattle.dav_core.specs.World.{SameBesidesOpens, World}
 use Rattle.dav_core.proofs.UnchangedLemmas.{same_besides, same_besides_then}
@@ -11,7 +11,7 @@ use Rattle.dav_fetch.specs.declared.copied.Kept.{Kept}
 use Rattle.dav_fetch.specs.declared.error.MirrorError.{MirrorError}
 use Rattle.dav_fetch.specs.Fetching.{AtFile, AtPage, Fetched, FilesEnd, Goes, Visited, Visits, visits_of}
 use Rattle.dav_fetch.specs.Mirroring.{AllTold}
-use Rattle.dav_fetch.specs.Peer.{Came, PeerState, RepliesIn, Seen}
+use Rattle.dav_fetch.specs.Peer.{Came, GoesOn, PeerState, RepliesIn, Seen}
 use Rattle.dav_fetch.specs.Turning.{AreTurned, MetAfter, TurnedTimes}
 use Rattle.dav_fetch.specs.Walk.{Visit, Way}
 use Rattle.dav_fetch.proofs.Ways.{visits_then, whole_visits}
@@ -20,9 +20,12 @@ pub turned_left : (n : ℕ) (u v w : World) → TurnedTimes n u v → SameBeside
 turned_left zero u v w came same = same_besides_then u v w came same
 turned_left (suc n) u v w (m, came, turn) same = (m, came, same_besides_then (turned m) v w turn same)
 
+pub turned_none : (v : World) → v.script ≡ [] → turned v ≡ v
+turned_none v none = ap (turned_by v) none
+
 -- ---- all visits, one after the other
 
-record Chain (s : PeerState) (visits : List Visit) : Type 0 where
+pub record Chain (s : PeerState) (visits : List Visit) : Type 0 where
   pub end : PeerState
   pub all : Visits s visits end
 
@@ -55,9 +58,14 @@ goes_on [] way made most old s rest result t new (inl takes) =
 goes_on (dir ∷ due) way made most old s rest (Ok x) t new h = absurd h
 goes_on (dir ∷ due) way made most old s rest (Err e) t new h = at_page dir made most e s rest t h.0
 
+pub fetched_chain : (s t : PeerState) (old new : Copied) (most : ℕ) (result : Result Unit MirrorError) (f : Fetched s old most result t new) → Chain s (visits_of f)
+fetched_chain s t old new most result f =
+    let rest = goes_on f.way.due f.way _ most old f.mid f.rest result t new f.goes in
+    record { end = rest.end; all = visits_then s f.mid rest.end f.pages f.rest (whole_visits s f.mid f.pages f.chain) rest.all }
+
 -- ---- their worlds
 
-some_world : (o : Option World) → is_some o ≡ true → (w : World) × (o ≡ Some w)
+pub some_world : (o : Option World) → is_some o ≡ true → (w : World) × (o ≡ Some w)
 some_world None e = cc
 some_world (Some w) e = (w, refl)
 
@@ -79,8 +87,33 @@ all_turned v n s t (x ∷ xs) (m, visited, chain) told now is came =
     met : (a b : World) → a ≡ b → (here : World) → SameBesidesOpens a here → TurnedTimes (suc n) v here → MetAfter (suc n) v b
     met a b e here same came = (here, subst (λ x. SameBesidesOpens x here) e same, came)
 
+-- the same of the world that the peer stands on
+all_gone_on : (v : World) (n : ℕ) (s t : PeerState) (visits : List Visit) → Visits s visits t → (here : World) → s.world ≡ Some here → TurnedTimes n v here → AreTurned v n visits
+all_gone_on v n s t [] chain here is came = tt
+all_gone_on v n s t (x ∷ xs) (m, visited, chain) here is came =
+    let (next, next_is, (u, before, turn)) = told_after s.world visited.at.world GoesOn here visited.goes is in
+    let further : TurnedTimes (suc n) v next = (u, turned_left n v here u came before, turn) in
+    let (later, later_is, same) = told_after visited.at.world m.world SameBesidesOpens next visited.read.stands next_is in (
+      λ w of. met w next further next_is of,
+      all_gone_on v (suc n) m t xs chain later later_is (turned_left (suc n) v next later further same),
+    )
+  where
+    one : (a b : World) → Some a ≡ Some b → a ≡ b
+    one a b e = cc
+
+    met : (w next : World) → TurnedTimes (suc n) v next → visited.at.world ≡ Some next → x.world ≡ Some w → MetAfter (suc n) v w
+    met w next further next_is of =
+        let (now, tells, same, reply) = subst (λ o. RepliesIn o x.path x.asked (Rose s.faults visited.at.faults) x.got visited.at.told) of visited.is in
+        (next, subst (SameBesidesOpens w) (one now.world next (sym (visited.owns now tells) ∙ next_is)) same, further)
+
+pub fetched_gone_on : (s t : PeerState) (old new : Copied) (most : ℕ) (result : Result Unit MirrorError) (f : Fetched s old most result t new) → (v : World) → s.world ≡ Some v
+    → AreTurned v 0 (visits_of f)
+fetched_gone_on s t old new most result f v is =
+    let chain = fetched_chain s t old new most result f in
+    all_gone_on v 0 s chain.end (visits_of f) chain.all v is (same_besides v)
+
 pub fetched_turned : (s t : PeerState) (old new : Copied) (most : ℕ) (result : Result Unit MirrorError) (f : Fetched s old most result t new) → AllTold (visits_of f)
     → (now : Seen) → s.told ≡ Some now → AreTurned now.world 0 (visits_of f)
 fetched_turned s t old new most result f told now is =
-    let rest = goes_on f.way.due f.way _ most old f.mid f.rest result t new f.goes in
-    all_turned now.world 0 s rest.end (visits_of f) (visits_then s f.mid rest.end f.pages f.rest (whole_visits s f.mid f.pages f.chain) rest.all) told now is (same_besides now.world)
+    let chain = fetched_chain s t old new most result f in
+    all_turned now.world 0 s chain.end (visits_of f) chain.all told now is (same_besides now.world)

@@ -4,6 +4,7 @@ use Rattle.std.specs.Option.{option_to_list}
 use Rattle.std.specs.List.{find}
 use Rattle.std.specs.List.Sorted.{IsStrictlySortedBy}
 use Rattle.dav_io.specs.Counts.{Rose}
+use Rattle.dav_io.specs.Told.{Both}
 use Rattle.dav_core.specs.DavPath.{WebPath, link_of, shown}
 use Rattle.dav_core.specs.Path.{Names, same_names}
 use Rattle.dav_fetch.specs.declared.copied.Copied.{Copied}
@@ -14,7 +15,7 @@ use Rattle.dav_fetch.specs.declared.found.Found.{Found}
 use Rattle.dav_fetch.specs.Asking.{awaits, asked_for, dir_path, file_path}
 use Rattle.dav_fetch.specs.Copy.{IsOf, path_cmp}
 use Rattle.dav_fetch.specs.Judging.{Use, gives, keeps, refuses, spoils, use_of, grown}
-use Rattle.dav_fetch.specs.Peer.{Calls, CountsFailure, PeerState, RepliesIn, StaysStill, TurnsOnce, links_most}
+use Rattle.dav_fetch.specs.Peer.{Calls, CountsFailure, GoesOn, PeerState, RepliesIn, StaysStill, TellsOwn, TurnsOnce, links_most}
 use Rattle.dav_fetch.specs.Reading.{IsOver, ReadOn}
 use Rattle.dav_fetch.specs.Walk.{Visit, IsPageOf, Way, Pages, page_most, start}
 
@@ -26,6 +27,8 @@ pub record Visited (s : PeerState) (visit : Visit) (t : PeerState) : Type 0 wher
   pub is : RepliesIn visit.world visit.path visit.asked (Rose s.faults at.faults) visit.got at.told
   pub stays : StaysStill visit.path s at
   pub turns : TurnsOnce s at
+  pub owns : TellsOwn at
+  pub goes : Both s.world at.world GoesOn
   pub read : ReadOn at visit.came t
 
 abbrev pub Visits : PeerState → List Visit → PeerState → Type 0
@@ -224,7 +227,9 @@ abbrev pub is_peer_failure : {A : Type 0} → Result A MirrorError → Bool
 is_peer_failure (Ok a) = false
 is_peer_failure (Err e) = is_peer_error e
 
--- No more replies are counted than requests were allowed. A failure of a call is told as such, and nothing else is.
+-- No more replies and turns are counted than requests were allowed. A failure of a call is told as such, and nothing else
+-- is.
 pub record CountsFetch (before : Calls) (most : ℕ) (result : Result Unit MirrorError) (after : Calls) : Type 0 where
   pub replies : after.replies ≤ before.replies + most
+  pub turns : after.turns ≤ before.turns + most
   pub failures : CountsFailure (is_peer_failure result) before after

@@ -17,7 +17,7 @@ use Rattle.dav_fetch.specs.declared.error.MirrorError.TheVariants.{NoMemory}
 use Rattle.dav_fetch.specs.Asking.{dir_path}
 use Rattle.dav_fetch.specs.Copy.{IsCopy, IsFaithful, IsFileAt, IsKept, IsOf, IsOfWorld, tag_in}
 use Rattle.dav_fetch.specs.Fetching.{link_is_short}
-use Rattle.dav_fetch.specs.Peer.{PeerState, Seen}
+use Rattle.dav_fetch.specs.Peer.{MeetsNone, PeerState, Seen}
 use Rattle.dav_fetch.specs.Walk.{Visit, page_most}
 
 -- a visit is of this world
@@ -96,6 +96,10 @@ pub record ShowsSame (w v : World) : Type 0 where
 -- Each visit was told, and of a world that shows the same as this one.
 abbrev pub TellsOne : World → List Visit → Type 0
 TellsOne w visits = AllByRecursion (λ (visit : Visit). (v : World) × (visit.world ≡ Some v) × ShowsSame w v) visits
+
+-- The peer told at each of these visits, or no link of this world is met there.
+abbrev pub AreClear : World → List Visit → Type 0
+AreClear w visits = AllByRecursion (λ (visit : Visit). (is_some visit.world ≡ true) ⊎ MeetsNone w.tree visit.path) visits
 
 -- It tells this world, of which nothing is to change.
 pub record TellsStill (w : World) (s : PeerState) : Type 0 where

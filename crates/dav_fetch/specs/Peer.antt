@@ -45,12 +45,16 @@ pub record Seen : Type 0 where
 
 pub record PeerState : Type 0 where
   pub told : Option Seen
+  -- the world that it stands on, where one is known: also behind a reply of which it tells nothing
+  pub world : Option World
   pub faults : ℕ
 
--- What its calls came to: how many replies it counts, and how many failures, which stop at the greatest u64.
+-- What its calls came to: how many replies it counts; how many failures; and how many turns the outside had, where it asks
+-- a disk. Failures and turns stop at the greatest u64.
 pub record Calls : Type 0 where
   pub replies : ℕ
   pub failures : ℕ
+  pub turns : ℕ
 
 -- the bytes of a part in a world, and zeros where none stand
 abbrev pub part_bytes : World → Part → List ℕ
@@ -108,16 +112,26 @@ abbrev pub StaysStill : WebPath → PeerState → PeerState → Type 0
 StaysStill path s t = (v : Seen) → s.told ≡ Some v → v.world.script ≡ [] → MeetsNone v.world.tree path
     → (w : Seen) × (t.told ≡ Some w) × SameBesidesOpens v.world w.world
 
+-- The outside made one batch of its changes. Nothing else changed but which files are open.
+abbrev pub GoesOn : World → World → Type 0
+GoesOn v w = (u : World) × SameBesidesOpens v u × SameBesidesOpens (turned u) w
+
 -- Where it tells a world before and after, the outside made one batch of its changes between.
 abbrev pub TurnsOnce : PeerState → PeerState → Type 0
-TurnsOnce s t = (v w : Seen) → s.told ≡ Some v → t.told ≡ Some w
-    → (u : World) × SameBesidesOpens v.world u × SameBesidesOpens (turned u) w.world
+TurnsOnce s t = (v w : Seen) → s.told ≡ Some v → t.told ≡ Some w → GoesOn v.world w.world
+
+-- What it tells is of the world that it stands on.
+abbrev pub TellsOwn : PeerState → Type 0
+TellsOwn t = (now : Seen) → t.told ≡ Some now → t.world ≡ Some now.world
 
 pub record Gets (s : PeerState) (path : WebPath) (asked : List Field) (result : Result Got PeerFault) (t : PeerState) : Type 0 where
   pub counts : s.faults ≤ t.faults
   pub is : IsGot path asked s result t
   pub stays : IsAskable path asked → OnOk result (StaysStill path s t)
   pub turns : OnOk result (TurnsOnce s t)
+  -- whether it tells or not
+  pub owns : OnOk result (TellsOwn t)
+  pub goes : IsAskable path asked → OnOk result (Both s.world t.world GoesOn)
 
 -- The world stays. These bytes of the body came; none come only at its end.
 abbrev pub Came : List ℕ → Seen → Seen → Type 0
@@ -131,6 +145,7 @@ Gave s into (Err NoMemory) t = Both s.told t.told (Came [])
 pub record Gives (s : PeerState) (into : List ℕ) (result : Result ℕ PeerFault) (t : PeerState) : Type 0 where
   pub counts : s.faults ≤ t.faults
   pub is : Gave s into result t
+  pub stands : Both s.world t.world SameBesidesOpens
 
 -- ---- what calls come to
 
@@ -144,12 +159,14 @@ abbrev pub CountsFailure : Bool → Calls → Calls → Type 0
 CountsFailure true before after = Rose before.failures after.failures
 CountsFailure false before after = after.failures ≡ before.failures
 
--- A request gets one reply at most.
+-- A request gets one reply at most, and the outside one turn at most.
 pub record CountsGet {A : Type 0} (before : Calls) (result : Result A PeerFault) (after : Calls) : Type 0 where
   pub replies : after.replies ≤ before.replies + 1
+  pub turns : after.turns ≤ before.turns + 1
   pub failures : CountsFailure (is_failure result) before after
 
--- A piece is none.
+-- A piece is neither.
 pub record CountsPiece {A : Type 0} (before : Calls) (result : Result A PeerFault) (after : Calls) : Type 0 where
   pub replies : after.replies ≤ before.replies
+  pub turns : after.turns ≤ before.turns
   pub failures : CountsFailure (is_failure result) before after

@@ -2,6 +2,7 @@
 use Rattle.std.specs.Prelude.{◌≡◌, ◌<◌, ◌≤◌, ℕ, List, [], length, Bool, true, false, Some}
 use Rattle.dav_io.specs.Counts.{Rose}
 use Rattle.dav_io.specs.Told.{Both}
+use Rattle.dav_core.specs.World.{SameBesidesOpens}
 use Rattle.dav_fetch.specs.declared.reading.Ended.{Ended}
 use Rattle.dav_fetch.specs.declared.reading.Ended.TheVariants.{Over, Full, Failed, NoMemory}
 use Rattle.dav_fetch.specs.Peer.{PeerState, Seen, Came}
@@ -10,6 +11,7 @@ use Rattle.dav_fetch.specs.Peer.{PeerState, Seen, Came}
 pub record ReadOn (s : PeerState) (came : List ℕ) (t : PeerState) : Type 0 where
   pub counts : s.faults ≤ t.faults
   pub told : Both s.told t.told (Came came)
+  pub stands : Both s.world t.world SameBesidesOpens
 
 -- the end of the body was met, where the peer tells
 abbrev pub IsOver : PeerState → Type 0

@@ -7,11 +7,11 @@ use Rattle.dav_fetch.specs.declared.peer.Got.{Got}
 use Rattle.dav_fetch.specs.Peer.{Calls, PeerState}
 
 abbrev pub peer_state : MemPeer → PeerState
-peer_state p = record { told = None; faults = p.faults.met }
+peer_state p = record { told = None; world = None; faults = p.faults.met }
 
--- It doesn't count its replies, and each fault that it meets is a failure.
+-- It doesn't count its replies, each fault that it meets is a failure, and it asks no disk.
 abbrev pub peer_calls : MemPeer → Calls
-peer_calls p = record { replies = 0; failures = p.faults.met }
+peer_calls p = record { replies = 0; failures = p.faults.met; turns = 0 }
 
 -- the replies to come, in their order
 abbrev pub coming : MemPeer → List Canned

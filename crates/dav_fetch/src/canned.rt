@@ -38,7 +38,7 @@ impl MemPeer {
     pub fn new(alloc: Global, replies: Replies, fail: Vec<u64>) -> Self
         ensures coming { coming result ≡ replies }
         ensures left { left_in result ≡ [] }
-        ensures state { ⟦<MemPeer as Peer>⟧.state result ≡ record { told = None; faults = 0 } }
+        ensures state { ⟦<MemPeer as Peer>⟧.state result ≡ record { told = None; world = None; faults = 0 } }
     {
         let mut coming = replies.into_vec();
         coming.reverse();

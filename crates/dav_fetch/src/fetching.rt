@@ -81,6 +81,7 @@ fn gather<P: Peer>(
     requires made { made ≤ most }
     ensures gathers { Gathers old.items paths.now made most (P.state peer.old) result (P.state peer.new) }
     ensures few { (P.calls peer.new).replies + made ≤ (P.calls peer.old).replies + most }
+    ensures turns_few { (P.calls peer.new).turns + made ≤ (P.calls peer.old).turns + most }
     ensures failures { CountsFailure (is_peer_failure result.ended) (P.calls peer.old) (P.calls peer.new) }
     ensures loan { P.loan peer.new ≡ P.loan peer.old }
     ensures since { (s : DiskState) → P.since peer.old s → P.since peer.new s }

@@ -1,8 +1,9 @@
 //! What holds of the definitions alone. Each function has nothing to do, and its contract is the law.
-ghost use Rattle.std.specs.Prelude.{◌≡◌, ◌<◌, ◌++◌, ◌∷◌, ℕ, List, Bool, IfSome, length, Ok, Option, Result, Some, true};
-ghost use Rattle.std.specs.List.{AllByRecursion, AllZip};
+ghost use Rattle.std.specs.Prelude.{◌≡◌, ◌<◌, ◌++◌, ◌∷◌, ℕ, List, Bool, IfSome, length, Ok, Option, Result, Some, false, true};
+ghost use Rattle.std.specs.List.{AllByRecursion, AllZip, list_any};
 ghost use Rattle.dav_core.specs.declared.member.Member.{Member as Shown};
 ghost use Rattle.dav_core.specs.Path.{Names, is_plain};
+ghost use Rattle.dav_core.specs.Tree.{is_link};
 ghost use Rattle.dav_core.specs.World.{IsWorld, World};
 ghost use Rattle.dav_io.specs.Counts.{RefusedNothing, Rose};
 ghost use Rattle.dav_page.specs.declared.row.PageRow.{PageRow as Line};
@@ -17,10 +18,10 @@ ghost use Rattle.dav_fetch.specs.Asking.{asked_for, awaits, dir_path, file_path}
 ghost use Rattle.dav_fetch.specs.Copy.{IsOfWorld};
 ghost use Rattle.dav_fetch.specs.Fetching.{Fetched, visits_of};
 ghost use Rattle.dav_fetch.specs.Judging.{gives, grown, use_of};
-ghost use Rattle.dav_fetch.specs.Mirroring.{AllTold, AreKept, AreShort, IsGood, IsLinkless, IsMet, IsMirror, IsOverOne, IsSound, IsWithinLimits, MetIn, Mirrors, TellsOne, TellsStill, visible_rows};
+ghost use Rattle.dav_fetch.specs.Mirroring.{AllTold, AreClear, AreKept, AreShort, IsGood, IsLinkless, IsMet, IsMirror, IsOverOne, IsSound, IsWithinLimits, MetIn, Mirrors, TellsOne, TellsStill, visible_rows};
 ghost use Rattle.dav_fetch.specs.Peer.{PeerState, RepliesOf, Seen as Now, body_in};
 ghost use Rattle.dav_fetch.specs.Turning.{AreTurned};
-ghost use Rattle.dav_fetch.specs.Walk.{IsFound, IsMember};
+ghost use Rattle.dav_fetch.specs.Walk.{IsFound, IsMember, Visit};
 
 /// What comes of a file, by the answer to the request that what is kept of it asks for, is a front of what its path has
 /// in the world of the reply, with the tag and the length there.
@@ -68,9 +69,21 @@ pub fn a_still_tree_is_fetched()
         → length (visible_rows w) < most → Mirrors w result new }
 {}
 
-/// A peer that tells a world of which nothing is to change tells it at each visit of a fetch, where it refused nothing
-/// and no link is met on the way through what is shown.
+/// A peer that tells a world of which nothing is to change tells it at each visit of a fetch, where it tells at each, or
+/// meets no link there: also behind faults, and below names that aren't shown.
 pub fn a_still_peer_tells_one_world()
+    ensures { (s t : PeerState) (old new : Copy) (most : ℕ) (result : Result Unit Error) (f : Fetched s old most result t new)
+        → (w : World) → TellsStill w s → AreClear w (visits_of f) → TellsOne w (visits_of f) }
+{}
+
+/// In a tree without links no visit meets one.
+pub fn a_tree_without_links_is_clear()
+    ensures { (w : World) (visits : List Visit) → list_any (λ row. is_link row.kind) w.tree ≡ false → AreClear w visits }
+{}
+
+/// Such a peer tells it at each visit where it refused nothing and no link is met on the way through what is shown,
+/// wherever else there are links.
+pub fn a_still_peer_tells_what_is_shown()
     ensures { (s t : PeerState) (old new : Copy) (most : ℕ) (result : Result Unit Error) (f : Fetched s old most result t new)
         → (w : World) → IsWorld w → IsLinkless w → RefusedNothing s.faults t.faults → TellsStill w s
         → TellsOne w (visits_of f) }
@@ -81,6 +94,13 @@ pub fn a_still_peer_tells_one_world()
 pub fn worlds_are_met_one_after_the_other()
     ensures { (s t : PeerState) (old new : Copy) (most : ℕ) (result : Result Unit Error) (f : Fetched s old most result t new)
         → AllTold (visits_of f) → (now : Now) → s.told ≡ Some now → AreTurned now.world 0 (visits_of f) }
+{}
+
+/// The same of each visit at which the peer told, whether it told at the others or not, from the world on that it stands
+/// on: so no link and no other visit takes a visit's world from the outside's script.
+pub fn told_worlds_are_those_of_the_script()
+    ensures { (s t : PeerState) (old new : Copy) (most : ℕ) (result : Result Unit Error) (f : Fetched s old most result t new)
+        → (v : World) → s.world ≡ Some v → AreTurned v 0 (visits_of f) }
 {}
 
 /// A tree has one mirror at most.

@@ -50,6 +50,7 @@ pub(crate) fn ask_page<P: Peer>(
         × IsPageOf dir.now.names visit found.items × IsOver (P.state peer.new)) }
     ensures err { IfErr result (λ e. PageFails dir.now.names (P.state peer.old) e (P.state peer.new)) }
     ensures replies { (P.calls peer.new).replies ≤ (P.calls peer.old).replies + 1 }
+    ensures turns { (P.calls peer.new).turns ≤ (P.calls peer.old).turns + 1 }
     ensures failures { CountsFailure (is_peer_failure result) (P.calls peer.old) (P.calls peer.new) }
     ensures loan { P.loan peer.new ≡ P.loan peer.old }
     ensures since { (s : DiskState) → P.since peer.old s → P.since peer.new s }

@@ -24,11 +24,11 @@ pub enum PeerFault {
 
 /// A server, asked by path.
 pub trait Peer {
-    /// The world of its last reply and what is left of that reply's body, where it tells them; and its count of
-    /// faults.
+    /// The world of its last reply and what is left of that reply's body, where it tells them; the world that it stands
+    /// on, where one is known; and its count of faults.
     ghost state: { Self → PeerState };
 
-    /// How many replies and how many failures it counts.
+    /// How many replies and how many failures it counts, and how many turns the outside had, where it asks a disk.
     ghost calls: { Self → Calls };
 
     /// The loan that the peer stands on: none, or that of what it asks in place of a server. A call leaves it.

@@ -32,6 +32,7 @@ pub(crate) fn read_up_to<P: Peer>(peer: &mut P, due: u64, into: &mut Vec<u8>) ->
     ensures reads { (came : List ℕ) × ReadsTo (P.state peer.old) due came result (P.state peer.new)
         × (into.new.items ≡ into.old.items ++ take due came) }
     ensures replies { (P.calls peer.new).replies ≤ (P.calls peer.old).replies }
+    ensures turns { (P.calls peer.new).turns ≤ (P.calls peer.old).turns }
     ensures failures { CountsFailure (is_failed_end result) (P.calls peer.old) (P.calls peer.new) }
     ensures loan { P.loan peer.new ≡ P.loan peer.old }
     ensures since { (s : DiskState) → P.since peer.old s → P.since peer.new s }

@@ -55,6 +55,7 @@ fn short(path: &DavPath, got: usize, announced: u64) -> MirrorError
 fn read_file<P: Peer>(peer: &mut P, path: &DavPath, file: Kept, due: u64) -> Taken
     ensures reads { ReadsFile path.now file due (P.state peer.old) result (P.state peer.new) }
     ensures replies { (P.calls peer.new).replies ≤ (P.calls peer.old).replies }
+    ensures turns { (P.calls peer.new).turns ≤ (P.calls peer.old).turns }
     ensures failures { CountsFailure (is_peer_failure result.ended) (P.calls peer.old) (P.calls peer.new) }
     ensures loan { P.loan peer.new ≡ P.loan peer.old }
     ensures since { (s : DiskState) → P.since peer.old s → P.since peer.new s }
@@ -110,6 +111,7 @@ fn ask_file<P: Peer>(alloc: Global, peer: &mut P, path: &DavPath, kept: Option<K
     requires kept { ForSome kept IsKept }
     ensures asks { AsksFile path.now.names kept (P.state peer.old) result (P.state peer.new) }
     ensures replies { (P.calls peer.new).replies ≤ (P.calls peer.old).replies + 1 }
+    ensures turns { (P.calls peer.new).turns ≤ (P.calls peer.old).turns + 1 }
     ensures failures { CountsFailure (is_peer_failure result.ended) (P.calls peer.old) (P.calls peer.new) }
     ensures loan { P.loan peer.new ≡ P.loan peer.old }
     ensures since { (s : DiskState) → P.since peer.old s → P.since peer.new s }
@@ -148,7 +150,9 @@ pub(crate) fn take_file<P: Peer>(
     requires kept { ForSome kept IsKept }
     ensures takes { TakesFile names.now kept made most (P.state peer.old) result (P.state peer.new) }
     ensures replies { (P.calls peer.new).replies ≤ (P.calls peer.old).replies + 1 }
+    ensures turns { (P.calls peer.new).turns ≤ (P.calls peer.old).turns + 1 }
     ensures few { (P.calls peer.new).replies + made ≤ (P.calls peer.old).replies + most }
+    ensures turns_few { (P.calls peer.new).turns + made ≤ (P.calls peer.old).turns + most }
     ensures failures { CountsFailure (is_peer_failure result.ended) (P.calls peer.old) (P.calls peer.new) }
     ensures loan { P.loan peer.new ≡ P.loan peer.old }
     ensures since { (s : DiskState) → P.since peer.old s → P.since peer.new s }

@@ -113,7 +113,9 @@ fn ask_due<P: Peer>(
     ensures err { IfErr result (λ e. (last : List Visit)
         × AtPage dir.now made most e (P.state peer.old) last (P.state peer.new)) }
     ensures replies { (P.calls peer.new).replies ≤ (P.calls peer.old).replies + 1 }
+    ensures turns { (P.calls peer.new).turns ≤ (P.calls peer.old).turns + 1 }
     ensures within { (P.calls peer.new).replies + made ≤ (P.calls peer.old).replies + most }
+    ensures turns_within { (P.calls peer.new).turns + made ≤ (P.calls peer.old).turns + most }
     ensures failures { CountsFailure (is_peer_failure result) (P.calls peer.old) (P.calls peer.new) }
     ensures loan { P.loan peer.new ≡ P.loan peer.old }
     ensures since { (s : DiskState) → P.since peer.old s → P.since peer.new s }
@@ -147,7 +149,9 @@ fn go_on<P: Peer>(
         × AtPage (slice_index_or walked.old.dirs.items at []) walked.old.made most e (P.state peer.old) last
         (P.state peer.new)) }
     ensures replies { (P.calls peer.new).replies ≤ (P.calls peer.old).replies + 1 }
+    ensures turns { (P.calls peer.new).turns ≤ (P.calls peer.old).turns + 1 }
     ensures within { (P.calls peer.new).replies + walked.old.made ≤ (P.calls peer.old).replies + most }
+    ensures turns_within { (P.calls peer.new).turns + walked.old.made ≤ (P.calls peer.old).turns + most }
     ensures failures { CountsFailure (is_peer_failure result) (P.calls peer.old) (P.calls peer.new) }
     ensures loan { P.loan peer.new ≡ P.loan peer.old }
     ensures since { (s : DiskState) → P.since peer.old s → P.since peer.new s }
@@ -168,7 +172,9 @@ fn go_on<P: Peer>(
 pub(crate) fn walk<P: Peer>(alloc: Global, peer: &mut P, most: u64) -> Result<Walked, MirrorError>
     ensures walks { WalksTo (P.state peer.old) most result (P.state peer.new) }
     ensures replies { IfOk result (λ walked. (P.calls peer.new).replies ≤ (P.calls peer.old).replies + walked.made) }
+    ensures turns { IfOk result (λ walked. (P.calls peer.new).turns ≤ (P.calls peer.old).turns + walked.made) }
     ensures within { (P.calls peer.new).replies ≤ (P.calls peer.old).replies + most }
+    ensures turns_within { (P.calls peer.new).turns ≤ (P.calls peer.old).turns + most }
     ensures failures { CountsFailure (is_peer_failure result) (P.calls peer.old) (P.calls peer.new) }
     ensures loan { P.loan peer.new ≡ P.loan peer.old }
     ensures since { (s : DiskState) → P.since peer.old s → P.since peer.new s }

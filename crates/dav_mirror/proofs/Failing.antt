@@ -1,6 +1,6 @@
 -- Where a fetch ends because its peer failed, the peer's count rose in it.
 use Rattle.std.specs.Prelude.{IsErr}
-use Rattle.std.proofs.Common.{◌≡◌, ◌==◌, ◌^◌, min, cond, Bool, true, false, inl, inr, ◌≤◌, ◌+◌, ℕ, List, [], ◌∷◌, Result, Err, refl, sym, ap, subst, arith, length, eqb-true}
+use Rattle.std.proofs.Common.{◌≡◌, ◌==◌, ◌^◌, min, cond, Bool, true, false, inl, inr, ◌≤◌, ◌+◌, ℕ, List, [], ◌∷◌, Option, Result, Err, refl, sym, ap, subst, arith, length, eqb-true}
 use Rattle.dav_io.specs.Counts.{Rose}
 use Rattle.dav_io.specs.Outside.{Stream}
 use Rattle.dav_io.specs.declared.failure.NoMemory.{NoMemory}
@@ -16,6 +16,7 @@ use Rattle.dav_fetch.specs.Peer.{PeerState}
 use Rattle.dav_fetch.specs.Walk.{Visit, Way}
 use Rattle.dav_mirror.specs.Mirrors.{EndsBy, Mirrors, status_of}
 use Rattle.dav_mirror.specs.Seen.{replies_in}
+use Rattle.dav_mirror.specs.declared.report.Report.{Report}
 use Rattle.dav_io.proofs.Rising.{rose_before}
 use Rattle.dav_fetch.proofs.Quiet.{visit_counts, visits_count}
 
@@ -78,5 +79,6 @@ pub same_faults : (faults refused : ℕ) → refused ≡ 0 → faults + refused 
 same_faults faults refused none = omega (arith, none)
 
 -- the same of a disk in that state
-pub mirrored : (before after disk : DiskState) (old : Stream) (result : Result ℕ NoMemory) (new : Stream) → after ≡ disk → Mirrors before disk old result new → Mirrors before after old result new
-mirrored before after disk old result new is m = subst (λ d. Mirrors before d old result new) (sym is) m
+pub mirrored : (before after disk : DiskState) (old : Stream) (result : Result ℕ NoMemory) (new : Stream) (report : Option Report) → after ≡ disk → Mirrors before disk old result new report
+    → Mirrors before after old result new report
+mirrored before after disk old result new report is m = subst (λ d. Mirrors before d old result new report) (sym is) m

@@ -1,5 +1,5 @@
 -- A mirror of a disk that stands still.
-use Rattle.std.proofs.Common.{◌≡◌, inl, inr, ◌<◌, ◌^◌, ℕ, [], true, Some, Result, Ok, Err, refl, sym, ap, subst, arith}
+use Rattle.std.proofs.Common.{◌≡◌, inl, inr, ◌<◌, ◌^◌, ℕ, [], true, Option, Some, Result, Ok, Err, refl, sym, ap, subst, arith}
 use Rattle.dav_io.specs.Counts.{RefusedNothing}
 use Rattle.dav_io.specs.Outside.{Stream}
 use Rattle.dav_io.specs.declared.failure.NoMemory.{NoMemory}
@@ -16,6 +16,7 @@ use Rattle.dav_fetch.proofs.Reached.{reached}
 use Rattle.dav_fetch.proofs.StillTold.{still_told}
 use Rattle.dav_mirror.specs.Mirrors.{EndsBy, Lists, Mirrors, StandsStill, most_requests, peer_at}
 use Rattle.dav_mirror.specs.Seen.{seen_in}
+use Rattle.dav_mirror.specs.declared.report.Report.{Report}
 
 abbrev no_copy : Copied
 no_copy = record { dirs = []; files = [] }
@@ -42,8 +43,8 @@ lists_by w (Err (Short p got announced)) copy before after old result new is end
 lists_by w (Err (Budget made)) copy before after old result new is ends = absurd is
 lists_by w (Err other) copy before after old result new is ends = absurd is
 
-pub listed : (before after : DiskState) (old new : Stream) (result : Result ℕ NoMemory) → Mirrors before after old result new → (w : World) → StandsStill before after w → Lists w old result new
-listed before after old new result m w stands =
+pub listed : (before after : DiskState) (old new : Stream) (result : Result ℕ NoMemory) (report : Option Report) → Mirrors before after old result new report → (w : World) → StandsStill before after w → Lists w old result new
+listed before after old new result report m w stands =
     let nothing : RefusedNothing before.faults m.last.faults = subst (RefusedNothing before.faults) (sym m.faults) stands.nothing in
     let over : IsOverOne w (peer_at before) no_copy (visits_of m.fetched) m.last = record {
       nothing = nothing;

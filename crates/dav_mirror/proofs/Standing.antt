@@ -3,7 +3,7 @@ use Rattle.std.proofs.Common.{◌≡◌, ◌++◌, ℕ, List, Bool, true, false,
 use Rattle.std.proofs.lemmas.Bool.{and_from, and_parts}
 use Rattle.std.specs.Result.{is_err}
 use Rattle.dav_io.specs.Told.{Both}
-use Rattle.dav_io.proofs.ToldLemmas.{told_after}
+use Rattle.dav_io.proofs.ToldLemmas.{both_then, told_after}
 use Rattle.dav_io.specs.declared.clock.Moment.{Moment}
 use Rattle.dav_io.specs.declared.failure.NoMemory.{NoMemory}
 use Rattle.dav_io.specs.declared.fields.Field.{Field}
@@ -20,7 +20,7 @@ use Rattle.dav_model.specs.Rules.{Rules}
 use Rattle.dav_model.specs.Still.{StandsAs}
 use Rattle.dav_model.specs.Trail.{Leaves}
 use Rattle.dav_model.proofs.StillSteps.{still_after, still_left}
-use Rattle.dav_fetch.specs.Peer.{Seen, StaysStill, TurnsOnce, body_in}
+use Rattle.dav_fetch.specs.Peer.{GoesOn, Seen, StaysStill, TurnsOnce, body_in}
 use Rattle.dav_mirror.specs.Asking.{Hears, IsAskedFor}
 use Rattle.dav_mirror.specs.Seen.{are_peer_rules, heard_by, is_clear_at, left_at, peer_in, seen_in, seen_of, tells}
 use Rattle.dav_mirror.specs.declared.play_peer.Heard.{Heard}
@@ -102,19 +102,23 @@ module _ (heard told : Heard) (other : Bool) (kept more : List ℕ) (body : Opti
       )
 
   -- one batch of changes is made between
-  pub turns_told : Leaves a.at m.at → is_err turns ≡ false → TurnsOnce (peer_in heard kept body own a) (peer_in told more (Some number) now_own b)
-  turns_told leaves went v w before after =
-      let (u, at_m, same) = told_after a.at.told m.at.told SameBesidesOpens v.world leaves (told_world heard kept body a v before) in
-      let (x, at_n, turned_so) = told_after m.at.told n.at.told (λ y z. SameBesidesOpens (turned y) z) u (turned_by_step turns went turn) at_m in
-      let (y, at_b, rest) = told_after n.at.told b.at.told SameBesidesOpens x (answered_leaves n b request now asked is.get answer replied) at_n in
-      (u, same, subst (SameBesidesOpens (turned u)) (one y w.world (sym at_b ∙ told_world told more (Some number) b w after)) (same_besides_then (turned u) x y turned_so rest))
+  pub world_goes : Leaves a.at m.at → is_err turns ≡ false → Both a.at.told b.at.told GoesOn
+  world_goes leaves went =
+      both_then a.at.told n.at.told b.at.told GoesOn SameBesidesOpens GoesOn (λ v x w gone same. (gone.0, gone.1, same_besides_then (turned gone.0) x w gone.2 same))
+      (both_then a.at.told m.at.told n.at.told SameBesidesOpens (λ y z. SameBesidesOpens (turned y) z) GoesOn (λ v u x same turn. (u, same, turn)) leaves (turned_by_step turns went turn))
+      (answered_leaves n b request now asked is.get answer replied)
     where
-      one : (y z : World) → Some y ≡ Some z → y ≡ z
-      one y z e = cc
-
       turned_by_step : (result : Result Answer NoMemory) → is_err result ≡ false → Stepped m Turn result n → Both m.at.told n.at.told (λ y z. SameBesidesOpens (turned y) z)
       turned_by_step (Ok answer) went (stands, holds) = stands.1
       turned_by_step (Err e) went refused = cc
+
+  pub turns_told : Leaves a.at m.at → is_err turns ≡ false → TurnsOnce (peer_in heard kept body own a) (peer_in told more (Some number) now_own b)
+  turns_told leaves went v w before after =
+      let (y, at_b, gone) = told_after a.at.told b.at.told GoesOn v.world (world_goes leaves went) (told_world heard kept body a v before) in
+      subst (GoesOn v.world) (one y w.world (sym at_b ∙ told_world told more (Some number) b w after)) gone
+    where
+      one : (y z : World) → Some y ≡ Some z → y ≡ z
+      one y z e = cc
 
 -- ---- what is heard
 

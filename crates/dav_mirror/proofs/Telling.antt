@@ -44,7 +44,7 @@ use Rattle.dav_model.proofs.PlainWalks.{plain_resolved}
 use Rattle.dav_fetch.specs.declared.peer.Got.{Got}
 use Rattle.dav_fetch.specs.declared.peer.PeerFault.{PeerFault}
 use Rattle.dav_fetch.specs.declared.peer.PeerFault.TheVariants.{Failed as PeerFailed, NoMemory as LacksMemory}
-use Rattle.dav_fetch.specs.Peer.{Came, Gets as GetsPeer, Gives as GivesPeer, IsAskable, IsGot, MeetsNone, PeerState, RepliesIn, Seen, StaysStill, TurnsOnce, body_in, part_bytes, peer_rules, peer_settings}
+use Rattle.dav_fetch.specs.Peer.{Came, GoesOn, Gets as GetsPeer, Gives as GivesPeer, IsAskable, IsGot, MeetsNone, PeerState, RepliesIn, Seen, StaysStill, TurnsOnce, body_in, part_bytes, peer_rules, peer_settings}
 use Rattle.dav_fetch.proofs.PollBytes.{poll_bytes}
 use Rattle.dav_mirror.specs.Asking.{IsAskedFor, IsGet, IsHeard}
 use Rattle.dav_mirror.specs.Seen.{are_peer_rules, heard_by, is_clear_at, is_none, is_on, is_peer_set, left_at, peer_in, seen_in, seen_of, tells}
@@ -454,17 +454,34 @@ gave_kept heard body kept came more a cut =
 
 -- ---- the calls of a peer
 
+-- What is told is the disk's world.
+pub told_world : (heard : Heard) (kept : List ℕ) (body : Option ℕ) (a : Stage) (v : Seen) → seen_of heard kept body a ≡ Some v → a.at.told ≡ Some v.world
+told_world heard kept body a v e = by a.at.told refl e
+  where
+    some_world : (u w : Seen) → Some u ≡ Some w → Some u.world ≡ Some w.world
+    some_world u w e = cc
+
+    by : (told : Option World) → a.at.told ≡ told → seen_in (tells heard a.playing.rules) kept (left_at body a.playing) told ≡ Some v → a.at.told ≡ Some v.world
+    by None is e = cc
+    by (Some w) is e = by_test (tells heard a.playing.rules w.tree) e
+      where
+        by_test : (b : Bool) → cond b (Some (record { world = w; left = kept ++ body_in w (left_at body a.playing) })) None ≡ Some v → a.at.told ≡ Some v.world
+        by_test true e = is ∙ some_world (record { world = w; left = kept ++ body_in w (left_at body a.playing) }) v e
+        by_test false e = cc
+
 -- a reply was given to a request that a player was asked behind other steps
 pub gets_reply : (s : PeerState) (m b : Stage) (request : Asked) (now : Moment) (answer : Answer) (path : WebPath) (asked : List Field) (heard : Bool) (told : Heard) (own : ℕ) (kept : List ℕ)
     (status : ℕ) (headers : List Field) (number : ℕ) → told ≡ heard_by heard path → kept ≡ [] → IsAskedFor path asked request heard → s.faults ≤ m.at.faults + own → answer ≡ Replied status headers number
     → Stepped m (Request request now) (Ok answer) b → (IsAskable path asked → StaysStill path s (peer_in told kept (Some number) own b)) → TurnsOnce s (peer_in told kept (Some number) own b)
-    → GetsPeer s path asked (Ok (record { status = status; headers = headers })) (peer_in told kept (Some number) own b)
-gets_reply s m b request now answer path asked heard told own kept status headers number told_is none is less said (x, holds) stays turns = record {
+    → (IsAskable path asked → Both s.world b.at.told GoesOn) → GetsPeer s path asked (Ok (record { status = status; headers = headers })) (peer_in told kept (Some number) own b)
+gets_reply s m b request now answer path asked heard told own kept status headers number told_is none is less said (x, holds) stays turns goes = record {
   counts = omega (arith, less, x.goes.faults);
   is = subst (λ k. IsGot path asked s (Ok (record { status = status; headers = headers })) (peer_in told k (Some number) own b)) (sym none)
       (replied m.playing b.playing m.at b.at request now answer path asked heard s.faults own status headers number is less said x holds told told_is);
   stays = stays;
   turns = turns;
+  owns = told_world told kept (Some number) b;
+  goes = goes;
 }
 
 not_zero : (n a b : ℕ) → n ≡ min a b → 0 < a → 0 < b → n ≡ 0 → ⊥
@@ -483,6 +500,7 @@ gives_kept heard body own a kept into more n cut count some room = record {
     both_map (seen_of heard kept body a) (seen_of heard more body a) (Came (take n into)) (λ v w. Came (take n into) v w × (n ≡ 0 → v.left ≡ []))
         (λ v w came. (came, λ zero. absurd (not_zero n (length kept) (length into) count some room zero))) (gave_kept heard body kept (take n into) more a cut),
   );
+  stands = both_same a.at.told a.at.told SameBesidesOpens same_besides refl;
 }
 
 -- nothing is left where there was no reply
@@ -494,6 +512,7 @@ gives_none heard own a kept into none = subst (λ k. GivesPeer (peer_in heard k 
     both_seen (tells heard a.playing.rules) [] [] [] [] a.at.told a.at.told (λ v w. Came (take 0 into) v w × (◌≡◌ {A = ℕ} 0 0 → v.left ≡ []))
         (both_same a.at.told a.at.told SameBesidesOpens same_besides refl) (λ v w old new same. ((same, refl), λ zero. refl)),
   );
+  stands = both_same a.at.told a.at.told SameBesidesOpens same_besides refl;
 })
 
 -- what a poll of the last reply's body gives, where nothing is kept of the last piece
@@ -513,6 +532,7 @@ module _ (heard : Heard) (body own : ℕ) (at : Option ℕ) (polled : at ≡ Som
           (λ v w came. (came, λ zero. absurd (not_zero n (length piece) (length into) count (polled_some heard body a.playing b.playing a.at b.at piece x full) room zero)))
           (polled_piece heard body a.playing b.playing a.at b.at piece (take n into) more cut x holds),
     );
+    stands = x.leaves;
   })
 
   pub gives_end : Stepped a (Poll body) (Ok End) b → (more : List ℕ) → more ≡ [] → GivesPeer (peer_in heard kept at own a) into (Ok 0) (peer_in heard more at own b)
@@ -523,18 +543,21 @@ module _ (heard : Heard) (body own : ℕ) (at : Option ℕ) (polled : at ≡ Som
       both_map (seen_of heard [] (Some body) a) (seen_of heard [] (Some body) b) (λ v w. Came [] v w × (v.left ≡ [])) (λ v w. Came [] v w × (0 ≡ 0 → v.left ≡ []))
           (λ v w came. (came.0, λ zero. came.1)) (polled_end heard body a.playing b.playing a.at b.at x),
     );
+    stands = x.leaves;
   }))
 
   pub gives_broken : Stepped a (Poll body) (Ok Broken) b → (more : List ℕ) → more ≡ [] → GivesPeer (peer_in heard kept at own a) into (Err PeerFailed) (peer_in heard more at own b)
   gives_broken (x, holds) more over = from_none (Err PeerFailed) more (subst (λ k. GivesPeer (peer_in heard [] (Some body) own a) into (Err PeerFailed) (peer_in heard k (Some body) own b)) (sym over) (record {
     counts = omega (arith, x.goes.faults);
     is = (rose_more (a.at.faults + own) a.at.faults b.at.faults own (omega arith) (polled_broken heard body a.playing b.playing a.at b.at x).0, (polled_broken heard body a.playing b.playing a.at b.at x).1);
+    stands = x.leaves;
   }))
 
   pub gives_refused : (e : NoMemory) → Stepped a (Poll body) (Err e) b → (more : List ℕ) → more ≡ [] → GivesPeer (peer_in heard kept at own a) into (Err LacksMemory) (peer_in heard more at own b)
   gives_refused e x more over = from_none (Err LacksMemory) more (subst (λ k. GivesPeer (peer_in heard [] (Some body) own a) into (Err LacksMemory) (peer_in heard k (Some body) own b)) (sym over) (record {
     counts = omega (arith, x.goes.faults);
     is = polled_refused heard body a.playing b.playing a.at b.at x e;
+    stands = x.makes e;
   }))
 
 -- A poll is answered by a piece, the end or a break.
@@ -596,7 +619,7 @@ is_replied a b request now answer (x, holds) none = none _ _ _ x.is
 -- A call that was refused for the count of replies raised a count of its own.
 pub gets_refused : (heard : Heard) (kept : List ℕ) (body : Option ℕ) (own more : ℕ) (a : Stage) (path : WebPath) (asked : List Field) → own ≤ more → Rose own more
     → GetsPeer (peer_in heard kept body own a) path asked (Err PeerFailed) (peer_in heard kept body more a)
-gets_refused heard kept body own more a path asked less rose = record { counts = omega (arith, less); is = by rose; stays = λ askable. tt; turns = tt }
+gets_refused heard kept body own more a path asked less rose = record { counts = omega (arith, less); is = by rose; stays = λ askable. tt; turns = tt; owns = tt; goes = λ askable. tt }
   where
     by : Rose own more → Rose (a.at.faults + own) (a.at.faults + more)
     by (inl lt) = inl (omega (arith, lt))
@@ -612,7 +635,7 @@ one_rose own less = by (own == greatest) refl
 
 -- Memory was refused, or what was asked no request can say: nothing is told of a reply.
 pub gets_lacking : (s t : PeerState) (path : WebPath) (asked : List Field) → s.faults ≤ t.faults → GetsPeer s path asked (Err LacksMemory) t
-gets_lacking s t path asked less = record { counts = less; is = tt; stays = λ askable. tt; turns = tt }
+gets_lacking s t path asked less = record { counts = less; is = tt; stays = λ askable. tt; turns = tt; owns = tt; goes = λ askable. tt }
 
 pub gets_unheard : (s : PeerState) (told : Heard) (kept : List ℕ) (own : ℕ) (a : Stage) (path : WebPath) (asked : List Field) (got : Got) → told ≡ Unheard → s.faults ≤ a.at.faults + own
     → (IsAskable path asked → ⊥) → GetsPeer s path asked (Ok got) (peer_in told kept None own a)
@@ -621,6 +644,8 @@ gets_unheard s told kept own a path asked got unheard less never = subst (λ h. 
   is = (None, none);
   stays = λ askable. absurd (never askable);
   turns = λ v w before after. absurd (nothing w (sym after ∙ none));
+  owns = told_world Unheard kept None a;
+  goes = λ askable. absurd (never askable);
 })
   where
     none : seen_in (tells Unheard a.playing.rules) kept [] a.at.told ≡ None
@@ -628,21 +653,6 @@ gets_unheard s told kept own a path asked got unheard less never = subst (λ h. 
 
     nothing : (w : Seen) → Some w ≡ None → ⊥
     nothing w e = cc
-
--- What is told is the disk's world.
-pub told_world : (heard : Heard) (kept : List ℕ) (body : Option ℕ) (a : Stage) (v : Seen) → seen_of heard kept body a ≡ Some v → a.at.told ≡ Some v.world
-told_world heard kept body a v e = by a.at.told refl e
-  where
-    some_world : (u w : Seen) → Some u ≡ Some w → Some u.world ≡ Some w.world
-    some_world u w e = cc
-
-    by : (told : Option World) → a.at.told ≡ told → seen_in (tells heard a.playing.rules) kept (left_at body a.playing) told ≡ Some v → a.at.told ≡ Some v.world
-    by None is e = cc
-    by (Some w) is e = by_test (tells heard a.playing.rules w.tree) e
-      where
-        by_test : (b : Bool) → cond b (Some (record { world = w; left = kept ++ body_in w (left_at body a.playing) })) None ≡ Some v → a.at.told ≡ Some v.world
-        by_test true e = is ∙ some_world (record { world = w; left = kept ++ body_in w (left_at body a.playing) }) v e
-        by_test false e = cc
 
 -- The same call, which leaves the same.
 pub gives_same : (s t t' : PeerState) (into : List ℕ) (result : Result ℕ PeerFault) → t ≡ t' → GivesPeer s into result t' → GivesPeer s into result t

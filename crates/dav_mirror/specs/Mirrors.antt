@@ -14,7 +14,9 @@ use Rattle.dav_fetch.specs.Mirroring.{IsLinkless, IsMirror, IsWithinLimits, visi
 use Rattle.dav_fetch.specs.Peer.{PeerState, Seen}
 use Rattle.dav_mirror.specs.Came.{CameOf}
 use Rattle.dav_mirror.specs.Lines.{lines_of}
+use Rattle.dav_mirror.specs.Report.{report_of}
 use Rattle.dav_mirror.specs.Seen.{seen_in}
+use Rattle.dav_mirror.specs.declared.report.Report.{Report}
 
 -- how many requests may be made
 abbrev pub most_requests : ℕ
@@ -46,14 +48,15 @@ EndsBy (Err PeerFailed) copy before after old result new = (new ≡ old) × (res
 EndsBy (Err LacksMemory) copy before after old result new = (new ≡ old) × IsErr result
 EndsBy (Err other) copy before after old result new = (new ≡ old) × (result ≡ Ok 8)
 
--- the peer over a disk of which nothing was asked yet: it tells the disk's world
+-- the peer over a disk of which nothing was asked yet: it tells the disk's world, and stands on it
 abbrev pub peer_at : DiskState → PeerState
-peer_at s = record { told = seen_in (λ tree. true) [] [] s.told; faults = s.faults }
+peer_at s = record { told = seen_in (λ tree. true) [] [] s.told; world = s.told; faults = s.faults }
 
--- A tree was fetched into a copy of nothing from a peer over the disk, and it ended so. The peer has the disk's count, and
--- tells no other world at the end than the disk's. Whatever stands there and however it ends, the disk is as the outside's
--- changes make it, and no more is open than was, but the file of the last reply where that wasn't read to its end.
-pub record Mirrors (before after : DiskState) (old : Stream) (result : Result ℕ NoMemory) (new : Stream) : Type 0 where
+-- A tree was fetched into a copy of nothing from a peer over the disk, and it ended so, which is reported. The peer has the disk's count, and
+-- tells no other world at the end than the disk's. Whatever stands there and however it ends, the disk is as so many
+-- batches of the outside's changes make it, one at most for each request that may be made; and no more is open than was,
+-- but the file of the last reply where that wasn't read to its end.
+pub record Mirrors (before after : DiskState) (old : Stream) (result : Result ℕ NoMemory) (new : Stream) (report : Option Report) : Type 0 where
   pub last : PeerState
   pub faults : last.faults ≡ after.faults
   pub tells : (v : Seen) → last.told ≡ Some v → after.told ≡ Some v.world
@@ -61,8 +64,11 @@ pub record Mirrors (before after : DiskState) (old : Stream) (result : Result �
   pub answer : Result Unit MirrorError
   pub fetched : Fetched (peer_at before) (record { dirs = []; files = [] }) most_requests answer last copy
   pub ends : EndsBy answer copy before.faults after.faults old result new
+  pub reports : report ≡ Some (report_of answer copy)
   pub file : Option ℕ
-  pub came : CameOf before file after
+  pub turns : ℕ
+  pub few : turns ≤ most_requests
+  pub came : CameOf before turns file after
 
 -- ---- a tree that stands still
 

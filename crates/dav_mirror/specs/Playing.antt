@@ -11,4 +11,4 @@ abbrev pub peer_of : {D R : Type 0} {disk : DiskGhosts D} {memory : MemoryGhosts
 peer_of peer = peer_in peer.heard (drop peer.at peer.piece) peer.body peer.refused (stage_of peer.player)
 
 abbrev pub calls_of : {D R : Type 0} {disk : DiskGhosts D} {memory : MemoryGhosts R} → PlayPeer D R disk memory → Calls
-calls_of peer = calls_in (playing_of peer.player).replies peer.refused peer.failures
+calls_of peer = calls_in (playing_of peer.player).replies peer.refused peer.failures peer.turns

@@ -59,13 +59,13 @@ left_at (Some body) p = p.left body
 abbrev pub seen_of : Heard → List ℕ → Option ℕ → Stage → Option Seen
 seen_of heard kept body a = seen_in (tells heard a.playing.rules) kept (left_at body a.playing) a.at.told
 
--- The count is that of the disk and the peer's own together.
+-- It stands on the disk's world. The count is that of the disk and the peer's own together.
 abbrev pub peer_in : Heard → List ℕ → Option ℕ → ℕ → Stage → PeerState
-peer_in heard kept body refused a = record { told = seen_of heard kept body a; faults = a.at.faults + refused }
+peer_in heard kept body refused a = record { told = seen_of heard kept body a; world = a.at.told; faults = a.at.faults + refused }
 
 -- How many replies it gave, as far as 2^31. Before that it refused none.
 abbrev pub replies_in : ℕ → ℕ → ℕ
 replies_in given refused = cond (refused == 0) (min given (2 ^ 31)) (2 ^ 31)
 
-abbrev pub calls_in : ℕ → ℕ → ℕ → Calls
-calls_in given refused failures = record { replies = replies_in given refused; failures = failures }
+abbrev pub calls_in : ℕ → ℕ → ℕ → ℕ → Calls
+calls_in given refused failures turns = record { replies = replies_in given refused; failures = failures; turns = turns }

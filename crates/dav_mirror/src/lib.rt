@@ -6,6 +6,8 @@ pub mod laws;
 mod lines;
 mod mirroring;
 mod play_peer;
+mod report;
 
 pub use mirroring::mirror;
 pub use play_peer::PlayPeer;
+pub use report::Report;

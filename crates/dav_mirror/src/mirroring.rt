@@ -1,13 +1,14 @@
 // A tree is fetched from a player over a disk, and what was fetched is listed.
 ghost use Rattle.std.specs.Prelude.{◌≡◌};
 ghost use Rattle.dav_handler.specs.Player.{playing_of};
-ghost use Rattle.dav_mirror.specs.Came.{CameOf, file_of};
+ghost use Rattle.dav_mirror.specs.Came.{CameBy, file_of};
 ghost use Rattle.dav_mirror.specs.Lines.{lines_of};
 ghost use Rattle.dav_mirror.specs.Mirrors.{Mirrors, Writes, peer_at, status_of as the_status_of};
 ghost use Rattle.dav_mirror.specs.Playing.{calls_of, peer_of};
 
 use crate::lines::text_of;
 use crate::play_peer::PlayPeer;
+use crate::report::{Report, total_of};
 use dav_core::Disk;
 use dav_fetch::{Copied, Kept, MirrorError, fetch};
 use dav_handler::{LocalFs, Player, Settings};
@@ -21,9 +22,9 @@ const MOST_REQUESTS: u64 = 1_000_000;
 // A peer over the disk from its root on: pages are permitted, and nothing else is set.
 fn peer_over<D: Disk + Drop>(alloc: Global, disk: D) -> PlayPeer<D, Forget>
     ensures peer { peer_of result ≡ peer_at (D.state disk) }
-    ensures calls { calls_of result ≡ record { replies = 0; failures = 0 } }
+    ensures calls { calls_of result ≡ record { replies = 0; failures = 0; turns = 0 } }
     ensures loan { D.loan result.player.store.disk ≡ D.loan disk }
-    ensures since { CameOf (D.state disk) (file_of result.body (playing_of result.player)) (D.state result.player.store.disk) }
+    ensures since { CameBy (D.state disk) result.turns (file_of result.body (playing_of result.player)) (D.state result.player.store.disk) }
 {
     let mut settings = Settings::defaults(alloc);
     settings.autoindex = Some(true);
@@ -43,8 +44,8 @@ fn write_lines<K: Sink>(alloc: Global, files: &[Kept], sink: &mut K) -> Result<u
 }
 
 // The status of an error: 5 where the disk failed. Where memory was refused there is none.
-fn status_of(error: MirrorError) -> Result<u8, NoMemory>
-    ensures { result ≡ the_status_of error }
+fn status_of(error: &MirrorError) -> Result<u8, NoMemory>
+    ensures { result ≡ the_status_of error.now }
 {
     match error {
         MirrorError::Peer => Ok(5),
@@ -64,9 +65,15 @@ fn status_of(error: MirrorError) -> Result<u8, NoMemory>
 ///
 /// The status is 0 where all was fetched and written, and 4 where the sink failed behind the fetch. It is 5 where the
 /// disk failed in a body, and 8 where what was answered can't be gone on with, as where there is no directory, a page or
-/// a link is too long, or more requests were due; then nothing is written.
-pub fn mirror<D: Disk, K: Sink>(alloc: Global, disk: &mut D, sink: &mut K) -> Result<u8, NoMemory>
-    ensures { Mirrors (D.state disk.old) (D.state disk.new) (K.stream sink.old) result (K.stream sink.new) }
+/// a link is too long, or more requests were due; then nothing is written. What the fetch came to is reported: how many
+/// files and bytes, or why it ended, and at which path.
+pub fn mirror<D: Disk, K: Sink>(
+    alloc: Global,
+    disk: &mut D,
+    sink: &mut K,
+    report: &mut Option<Report>,
+) -> Result<u8, NoMemory>
+    ensures { Mirrors (D.state disk.old) (D.state disk.new) (K.stream sink.old) result (K.stream sink.new) report.new }
 {
     let mut peer = peer_over(alloc, &mut *disk);
     let mut copy = Copied::empty(alloc);
@@ -74,7 +81,18 @@ pub fn mirror<D: Disk, K: Sink>(alloc: Global, disk: &mut D, sink: &mut K) -> Re
     let mut memory = None;
     let _ = peer.into_player().into_disk(&mut memory);
     match answer {
-        Ok(()) => write_lines(alloc, copy.files.as_slice(), sink),
-        Err(error) => status_of(error),
+        Ok(()) => {
+            let files = copy.files.as_slice();
+            *report = Some(Report::Fetched {
+                files: files.len() as u64,
+                bytes: total_of(files),
+            });
+            write_lines(alloc, files, sink)
+        }
+        Err(error) => {
+            let status = status_of(&error);
+            *report = Some(Report::Ended(error));
+            status
+        }
     }
 }

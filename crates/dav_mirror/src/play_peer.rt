@@ -1,10 +1,10 @@
-ghost use Rattle.std.specs.Prelude.{◌≡◌, ◌≤◌, ◌<◌, ◌+◌, ◌^◌, [], ◌++◌, drop, length, min, take, None, OnErr, OnOk, true};
+ghost use Rattle.std.specs.Prelude.{◌≡◌, ◌≤◌, ◌<◌, ◌+◌, ◌^◌, ℕ, [], ◌++◌, drop, length, min, take, None, OnErr, OnOk, true};
 ghost use Rattle.dav_core.specs.Disk.{DiskState};
 ghost use Rattle.dav_core.specs.World.{World};
 ghost use Rattle.dav_handler.specs.Player.{playing_of, stage_of};
 ghost use Rattle.dav_model.specs.Still.{StandsAs};
 ghost use Rattle.dav_model.specs.Trail.{Leaves};
-ghost use Rattle.dav_mirror.specs.Came.{CameOf, file_of};
+ghost use Rattle.dav_mirror.specs.Came.{CameBy, file_of};
 ghost use Rattle.dav_mirror.specs.Seen.{heard_by};
 ghost use Rattle.dav_mirror.specs.declared.play_peer.Heard.TheVariants.{Unasked};
 
@@ -52,6 +52,8 @@ pub struct PlayPeer<D: Disk, R: Remember> {
     refused: u64,
     // How many calls failed.
     failures: u64,
+    // How many turns the outside had.
+    turns: u64,
     ghost inside: { at ≤ length piece },
 }
 
@@ -64,7 +66,8 @@ impl<D: Disk, R: Remember> PlayPeer<D, R> {
         ensures peer { peer_of result ≡ peer_in Unasked [] None 0 (stage_of player) }
         ensures player { result.player ≡ player }
         ensures body { result.body ≡ None }
-        ensures calls { calls_of result ≡ calls_in (playing_of player).replies 0 0 }
+        ensures calls { calls_of result ≡ calls_in (playing_of player).replies 0 0 0 }
+        ensures turns { result.turns ≡ 0 }
     {
         PlayPeer {
             alloc,
@@ -75,6 +78,7 @@ impl<D: Disk, R: Remember> PlayPeer<D, R> {
             at: 0,
             refused: 0,
             failures: 0,
+            turns: 0,
         }
     }
 
@@ -91,6 +95,7 @@ impl<D: Disk, R: Remember> PlayPeer<D, R> {
             at: _,
             refused: _,
             failures: _,
+            turns: _,
         } = self;
         player
     }
@@ -107,10 +112,12 @@ impl<D: Disk, R: Remember> PlayPeer<D, R> {
         ensures still { (w : World) → StandsAs w (D.state self.old.player.store.disk)
             → StandsAs w (D.state self.new.player.store.disk) }
         ensures leaves { Leaves (D.state self.old.player.store.disk) (D.state self.new.player.store.disk) }
-        ensures came { (s : DiskState) → CameOf s (file_of self.old.body (playing_of self.old.player)) (D.state self.old.player.store.disk)
-            → CameOf s (file_of self.new.body (playing_of self.new.player)) (D.state self.new.player.store.disk) }
+        ensures came { (s : DiskState) (count : ℕ)
+            → CameBy s count (file_of self.old.body (playing_of self.old.player)) (D.state self.old.player.store.disk)
+            → CameBy s count (file_of self.new.body (playing_of self.new.player)) (D.state self.new.player.store.disk) }
         ensures heard { self.new.heard ≡ self.old.heard }
         ensures failures { self.new.failures ≡ self.old.failures }
+        ensures turns { self.new.turns ≡ self.old.turns }
         ensures loan { D.loan self.new.player.store.disk ≡ D.loan self.old.player.store.disk }
     {
         self.at = 0;
@@ -131,6 +138,7 @@ impl<D: Disk, R: Remember> PlayPeer<D, R> {
         ensures body { (self.new.body ≡ self.old.body) × (self.new.heard ≡ self.old.heard) }
         ensures refused { self.new.refused ≡ self.old.refused }
         ensures failures { self.new.failures ≡ self.old.failures }
+        ensures turns { self.new.turns ≡ self.old.turns }
         ensures len { length into.new ≡ length into.old }
     {
         let count = give_from(self.piece.as_slice(), self.at, into);
@@ -159,12 +167,12 @@ fn abandon<D: Disk, R: Remember>(player: &mut Player<D, R>, body: u32) -> Result
     ensures still { (w : World) → StandsAs w (D.state player.old.store.disk)
         → StandsAs w (D.state player.new.store.disk) }
     ensures leaves { Leaves (D.state player.old.store.disk) (D.state player.new.store.disk) }
-    ensures ended { OnOk result ((s : DiskState)
-        → CameOf s ((playing_of player.old).held body) (D.state player.old.store.disk)
-        → CameOf s None (D.state player.new.store.disk)) }
-    ensures held { OnErr result ((s : DiskState)
-        → CameOf s ((playing_of player.old).held body) (D.state player.old.store.disk)
-        → CameOf s ((playing_of player.new).held body) (D.state player.new.store.disk)) }
+    ensures ended { OnOk result ((s : DiskState) (count : ℕ)
+        → CameBy s count ((playing_of player.old).held body) (D.state player.old.store.disk)
+        → CameBy s count None (D.state player.new.store.disk)) }
+    ensures held { OnErr result ((s : DiskState) (count : ℕ)
+        → CameBy s count ((playing_of player.old).held body) (D.state player.old.store.disk)
+        → CameBy s count ((playing_of player.new).held body) (D.state player.new.store.disk)) }
     ensures loan { D.loan player.new.store.disk ≡ D.loan player.old.store.disk }
 {
     match player.step(&Step::Abandon(body)) {
@@ -182,7 +190,7 @@ impl<D: Disk, R: Remember> Peer for PlayPeer<D, R> {
 
     ghost loan = { λ p. D.loan p.player.store.disk };
 
-    ghost since = { λ p s. CameOf s (file_of p.body (playing_of p.player)) (D.state p.player.store.disk) };
+    ghost since = { λ p s. CameBy s p.turns (file_of p.body (playing_of p.player)) (D.state p.player.store.disk) };
 
     fn get(&mut self, path: &DavPath, fields: &Fields) -> Result<Got, PeerFault> {
         if self.player.replies() >= MOST_REPLIES {
@@ -211,6 +219,7 @@ impl<D: Disk, R: Remember> Peer for PlayPeer<D, R> {
         if self.player.turn().is_err() {
             return Err(PeerFault::NoMemory);
         }
+        self.turns = self.turns.saturating_add(1);
         match self.player.request(&request, Moment(0)) {
             Ok(reply) => {
                 let Reply {

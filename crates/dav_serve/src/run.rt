@@ -17,6 +17,7 @@ use dav_bench::bench;
 use dav_cache::Owned;
 use dav_core::Disk;
 use dav_io::{Client, Clock, NoMemory, Sink};
+pub use dav_mirror::Report;
 use dav_mirror::mirror;
 use std::alloc::Global;
 
@@ -80,7 +81,9 @@ fn bench_remembering<K: Sink>(alloc: Global, seed: u32, sink: &mut K) -> Result<
 /// Where the words say a large input, it is played, what was counted over it is written, and the status is 0, or 4
 /// where the sink failed (`benches`); nothing is read, and the disk isn't asked. Where they say a tree, it is fetched
 /// from the disk as a client of a server over it would, and a line is written for each of its files; the status is 0, or
-/// 4 where the sink failed; 5 and 8 are told of the fetch, and then nothing is written (`mirrors`). Nothing is read.
+/// 4 where the sink failed; 5 and 8 are told of the fetch, and then nothing is written (`mirrors`). Nothing is read. What
+/// the fetch came to is reported: how many files and bytes, or why it ended, and at which path. No other run reports
+/// anything (`report`).
 pub fn run<S: Client<K>, K: Sink, D: Disk, C: Clock>(
     alloc: Global,
     words: &[String],
@@ -88,6 +91,7 @@ pub fn run<S: Client<K>, K: Sink, D: Disk, C: Clock>(
     sink: &mut K,
     disk: &mut D,
     clock: &mut C,
+    report: &mut Option<Report>,
 ) -> Result<u8, NoMemory>
     requires waits { IfSome (rules_said words.now) (λ rules. HoldsSoFar
         (setup_with (C.shows clock.old) rules)
@@ -114,7 +118,8 @@ pub fn run<S: Client<K>, K: Sink, D: Disk, C: Clock>(
     ensures benches { IfSome (the_seed_said words.now) (λ seed. Benches (seed + 1) (K.stream sink.old) result
         (K.stream sink.new)) }
     ensures mirrors { the_mirror_said words.now ≡ true
-        → Mirrors (D.state disk.old) (D.state disk.new) (K.stream sink.old) result (K.stream sink.new) }
+        → Mirrors (D.state disk.old) (D.state disk.new) (K.stream sink.old) result (K.stream sink.new) report.new }
+    ensures report { the_mirror_said words.now ≡ false → report.new ≡ report.old }
 {
     match options_said(words) {
         Some(options) => match serve_remembering(alloc, &options, source, sink, disk, clock) {
@@ -125,7 +130,7 @@ pub fn run<S: Client<K>, K: Sink, D: Disk, C: Clock>(
             Some(seed) => bench_remembering(alloc, seed, sink),
             None => {
                 if mirror_said(words) {
-                    return mirror(alloc, disk, sink);
+                    return mirror(alloc, disk, sink, report);
                 }
                 Ok(2)
             }

@@ -4,7 +4,7 @@
 
 use dav_host::{HostDisk, StdSink, StdSource, SystemClock};
 use dav_io::NoMemory;
-use dav_serve::run::run;
+use dav_serve::run::{Report, run};
 use std::io::ErrorKind;
 use std::process::ExitCode;
 use std::{env, fs, io};
@@ -17,7 +17,8 @@ const HELP: &str = "
   ROOT serve          serves the folder ROOT to the requests on standard input, and answers on standard output
   ROOT bench SEED     plays a large input, made from the number SEED from 0 to 399, over a disk in memory
   ROOT mirror         fetches the folder ROOT page by page and file by file, as a client would, and writes a line for
-                      each file: its length and its link; names that begin with a dot are left out
+                      each file: its length and its link; names that begin with a dot are left out. On standard error
+                      it says how many files and bytes these are, or at which path it ended, and why
 
 Options of serve, in any order, each at most once:
   --autoindex         a directory is answered with a page of its entries
@@ -92,8 +93,8 @@ fn warn(rt: &HostRuntime, words: &[String]) {
     }
 }
 
-// Makes the outside, and runs over it.
-fn serve(rt: &HostRuntime, words: &[String]) -> Result<u8, NoMemory> {
+// Makes the outside, and runs over it. What a fetch came to is reported.
+fn serve(rt: &HostRuntime, words: &[String], report: &mut Option<Report>) -> Result<u8, NoMemory> {
     let mut disk = HostDisk::new(rt.alloc(), rt, root_of(words))?;
     let mut source = StdSource::new(rt.reader());
     let mut sink = StdSink::new(io::writer(rt));
@@ -105,7 +106,17 @@ fn serve(rt: &HostRuntime, words: &[String]) -> Result<u8, NoMemory> {
         &mut sink,
         &mut disk,
         &mut clock,
+        report,
     )
+}
+
+// Says in a line what a fetch came to, where there was one: what was fetched, or at which path it ended and why.
+fn tell(rt: &HostRuntime, report: &Option<Report>) {
+    if let Some(report) = report {
+        if let Ok(line) = report.line(rt.alloc()) {
+            let _ = eprintln!(rt; "davserve: {line}");
+        }
+    }
 }
 
 // What a status says, in a line.
@@ -170,9 +181,13 @@ fn main(rt: HostRuntime) -> ExitCode {
         return say(&rt, "davserve 0.1.0");
     }
     warn(&rt, &words);
-    match serve(&rt, &words) {
+    let mut report = None;
+    match serve(&rt, &words, &mut report) {
         Ok(2) => refuses(&rt, &words),
-        Ok(status) => ends(&rt, status),
+        Ok(status) => {
+            tell(&rt, &report);
+            ends(&rt, status)
+        }
         Err(_) => {
             let _ = eprintln!(rt; "davserve: out of memory");
             ExitCode::from(101)

@@ -21,6 +21,7 @@
 //!                          TEXT`; `turn` alone for none
 //!     gains SECONDS        the clock gains so many seconds each time that it is asked
 //!     listings             behind the rest stands how many listings the disk was asked for
+//!     report               behind the rest stands what a fetch came to
 //!     rooms                the run is made with each smaller room as well
 //!
 //! In a text each `%XX` is a byte, `N*TEXT` is so many copies of a text, and `^` stands between texts that are joined.
@@ -40,7 +41,7 @@ use cells::show;
 use clock::GainingClock;
 use dav_core::Disk;
 use dav_io::{MemSink, MemSource, NoMemory};
-use dav_serve::run::run;
+use dav_serve::run::{Report, run};
 use scene::{Scene, scene_of};
 use std::alloc::Global;
 
@@ -51,6 +52,7 @@ pub struct Came {
     pub asked: bool,
     pub listings: u64,
     pub sink: MemSink,
+    pub report: Option<Report>,
 }
 
 /// Runs the program over a scene whose sink has so much room.
@@ -69,8 +71,17 @@ pub fn came_of(alloc: Global, scene: Scene, room: usize) -> Result<Came, NoMemor
     let mut source = MemSource::new(input, take.max(1), source_fails);
     let mut sink = MemSink::new(alloc, room, put.max(1), sink_fails)?;
     let mut clock = GainingClock::new(gain);
-    let status = run(alloc, &words, &mut source, &mut sink, &mut disk, &mut clock);
-    ended_with(status, disk.asked() > 0, disk.listings(), sink)
+    let mut report = None;
+    let status = run(
+        alloc,
+        &words,
+        &mut source,
+        &mut sink,
+        &mut disk,
+        &mut clock,
+        &mut report,
+    );
+    ended_with(status, disk.asked() > 0, disk.listings(), sink, report)
 }
 
 // What came of a run that wasn't refused memory. It stands apart from what the run owns.
@@ -79,12 +90,14 @@ fn ended_with(
     asked: bool,
     listings: u64,
     sink: MemSink,
+    report: Option<Report>,
 ) -> Result<Came, NoMemory> {
     Ok(Came {
         status: status?,
         asked,
         listings,
         sink,
+        report,
     })
 }
 
@@ -94,6 +107,18 @@ fn told(alloc: Global, came: &Came) -> Result<String> {
     line.push_str(if came.asked { " asked " } else { " unasked " })?;
     show(&mut line, came.sink.written())?;
     Ok(line)
+}
+
+// Tells what a fetch came to, where there was one.
+fn tell_report(alloc: Global, line: &mut String, report: &Option<Report>) -> Result<()> {
+    match report {
+        Some(report) => {
+            let text = report.line(alloc)?;
+            write!(line, " | {text}")?;
+        }
+        None => line.push_str(" | no report")?,
+    }
+    Ok(())
 }
 
 fn answer(alloc: Global, row: &str) -> Result<String> {
@@ -106,6 +131,9 @@ fn answer(alloc: Global, row: &str) -> Result<String> {
     let mut line = told(alloc, &came)?;
     if row.ends_with("| listings") {
         write!(line, " | {} listings", came.listings)?;
+    }
+    if row.ends_with("| report") {
+        tell_report(alloc, &mut line, &came.report)?;
     }
     if row.ends_with("| rooms") {
         rooms::tell(alloc, &mut line, row)?;

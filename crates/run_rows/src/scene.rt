@@ -96,7 +96,7 @@ fn set(alloc: Global, scene: &mut Scene, part: &str) -> Result<()> {
         }
         "docs" => add_docs(alloc, &mut scene.disk)?,
         "gains" => scene.gain = number(text)?,
-        "listings" | "rooms" => {}
+        "listings" | "report" | "rooms" => {}
         _ => bail!("no part of a row: {word}"),
     }
     Ok(())

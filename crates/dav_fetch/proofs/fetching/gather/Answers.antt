@@ -26,6 +26,7 @@ loop-at-init g c =
       omega arith,
       refl,
       λ s h. h,
+      omega arith,
     )
 
 pub take_file-kept-requires-clause-kept : goal.take_file-kept-requires-clause-kept
@@ -90,10 +91,14 @@ loop-at-preserved g c =
       omega (arith, i.10, c.take_file-kept.ensures.replies),
       subst (λ e. CountsFailure (is_peer_failure e) (g.P.Peer.calls c.loop-at.peer) (g.P.Peer.calls c.take_file-kept.new.peer)) c.in_default.is c.take_file-kept.ensures.failures ∙ i.11,
       λ s h. c.take_file-kept.ensures.since s (i.12 s h),
+      omega (arith, i.13, c.take_file-kept.ensures.turns),
     )
 
 pub returns-in-Err-clause-few : goal.returns-in-Err-clause-few
 returns-in-Err-clause-few g c = omega (arith, c.loop-at.invariant.10, c.take_file-kept.ensures.few)
+
+pub returns-in-Err-clause-turns_few : goal.returns-in-Err-clause-turns_few
+returns-in-Err-clause-turns_few g c = omega (arith, c.loop-at.invariant.13, c.take_file-kept.ensures.turns_few)
 
 pub returns-in-Err-clause-failures : goal.returns-in-Err-clause-failures
 returns-in-Err-clause-failures g c =

@@ -16,6 +16,7 @@ invariant-loop-at g l = (visits : List Visit) × Visits (g.P.Peer.state l.fn.pee
     × ((g.P.Peer.calls l.peer).replies + l.fn.made ≤ (g.P.Peer.calls l.fn.peer).replies + l.made)
     × ((g.P.Peer.calls l.peer).failures ≡ (g.P.Peer.calls l.fn.peer).failures)
     × ((s : DiskState) → g.P.Peer.since l.fn.peer s → g.P.Peer.since l.peer s)
+    × ((g.P.Peer.calls l.peer).turns + l.fn.made ≤ (g.P.Peer.calls l.fn.peer).turns + l.made)
 
 abbrev pub decreases-loop-at : goal.decreases-loop-at
 decreases-loop-at g l = length l.paths - l.at

@@ -1,5 +1,5 @@
-use Rattle.dav_fetch.proofs.StillTold.{still_told}
+use Rattle.dav_fetch.proofs.StillClear.{fetched_clear}
 use Rattle.dav_fetch.proofs.laws.a_still_peer_tells_one_world.Goals as goal
 
 pub returns : goal.returns
-returns c = still_told
+returns c = fetched_clear

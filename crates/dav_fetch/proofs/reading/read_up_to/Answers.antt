@@ -1,6 +1,9 @@
-use Rattle.std.proofs.Common.{◌≡◌, ◌∙◌, ◌<◌, ◌++◌, length, take, min, ap, rules, arith}
-use Rattle.dav_fetch.proofs.BodyRead.{kept_more, left_more, read_more}
+use Rattle.std.proofs.Common.{◌≡◌, ◌∙◌, ◌<◌, ◌++◌, length, [], take, min, refl, ap, rules, arith}
+use Rattle.dav_fetch.proofs.BodyRead.{kept_more, left_more, read_more, read_none}
 use Rattle.dav_fetch.proofs.reading.read_up_to.Goals as goal
+
+pub loop-left-init : goal.loop-left-init
+loop-left-init g c = ([], read_none _, search rules, search rules, refl, refl, omega arith, refl, λ s h. h, omega arith)
 
 pub loop-left-preserved : goal.loop-left-preserved
 loop-left-preserved g c =
@@ -17,4 +20,5 @@ loop-left-preserved g c =
       omega (arith, i.6, c.in-Ok.ensures.calls.replies),
       c.in-Ok.ensures.calls.failures ∙ i.7,
       λ s h. c.piece.ensures.since s (i.8 s h),
+      omega (arith, i.9, c.in-Ok.ensures.calls.turns),
     )

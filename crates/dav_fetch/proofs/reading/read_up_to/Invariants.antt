@@ -10,6 +10,7 @@ invariant-loop-left g l = (came : List ℕ) × ReadOn (g.P.Peer.state l.initial.
     × ((g.P.Peer.calls l.peer).replies ≤ (g.P.Peer.calls l.initial.peer).replies)
     × ((g.P.Peer.calls l.peer).failures ≡ (g.P.Peer.calls l.initial.peer).failures)
     × ((s : DiskState) → g.P.Peer.since l.initial.peer s → g.P.Peer.since l.peer s)
+    × ((g.P.Peer.calls l.peer).turns ≤ (g.P.Peer.calls l.initial.peer).turns)
 
 abbrev pub decreases-loop-left : goal.decreases-loop-left
 decreases-loop-left g l = l.left

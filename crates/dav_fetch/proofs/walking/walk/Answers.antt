@@ -44,4 +44,5 @@ loop-at-preserved g c =
       omega (arith, i.7, c.in-Ok.ensures.replies, c.in-Ok.ensures.made.0),
       c.in-Ok.ensures.failures ∙ i.8,
       λ s h. c.go_on.ensures.since s (i.9 s h),
+      omega (arith, i.10, c.in-Ok.ensures.turns, c.in-Ok.ensures.made.0),
     )

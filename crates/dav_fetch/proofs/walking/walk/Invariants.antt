@@ -12,6 +12,7 @@ invariant-loop-at g l = (visits : List Visit) × WholeVisits (g.P.Peer.state l.i
     × ((g.P.Peer.calls l.peer).replies ≤ (g.P.Peer.calls l.initial.peer).replies + l.walked.made)
     × ((g.P.Peer.calls l.peer).failures ≡ (g.P.Peer.calls l.initial.peer).failures)
     × ((s : DiskState) → g.P.Peer.since l.initial.peer s → g.P.Peer.since l.peer s)
+    × ((g.P.Peer.calls l.peer).turns ≤ (g.P.Peer.calls l.initial.peer).turns + l.walked.made)
 
 abbrev pub decreases-loop-at : goal.decreases-loop-at
 decreases-loop-at g l = l.most - l.walked.made

@@ -6,6 +6,7 @@ use Rattle.dav_mirror.specs.Came.{file_of}
 use Rattle.dav_mirror.specs.Lines.{lines_of}
 use Rattle.dav_mirror.specs.Mirrors.{Writes, most_requests}
 use Rattle.dav_mirror.specs.Playing.{peer_of}
+use Rattle.dav_mirror.proofs.Coming.{few_turns}
 use Rattle.dav_mirror.proofs.Failing.{disk_rose, ends_by_error, fetched_rose, mirrored, none_refused, same_faults}
 use Rattle.dav_mirror.proofs.Telling.{told_world}
 use Rattle.dav_mirror.proofs.mirroring.mirror.Goals as goal
@@ -15,17 +16,21 @@ returns-in-Ok g c =
     let p = c.fetch-answer.new.peer in
     let first = peer_of c.peer_over-peer.result in
     let none : p.refused ≡ 0 = none_refused (playing_of p.player).replies p.refused (omega (arith, c.in-Ok.ensures.calls.replies, ap (λ (z : Calls). z.replies) c.peer_over-peer.ensures.calls)) in
-    mirrored _ _ (g.D.Disk.state p.player.store.disk.now) _ _ _ (search rules) (record {
+    let came = c.in-Ok.ensures.since (g.D.Disk.state c.args.disk.now) c.peer_over-peer.ensures.since in
+    mirrored _ _ (g.D.Disk.state p.player.store.disk.now) _ _ _ _ (search rules) (record {
       last = peer_of p;
       faults = same_faults (g.D.Disk.state p.player.store.disk.now).faults p.refused none;
       tells = λ v e. told_world p.heard (drop p.at p.piece) p.body (stage_of p.player) v e;
       copy = c.fetch-answer.new.copy;
+      reports = search rules;
       answer = Ok tt;
       fetched = subst (λ s. Fetched s (record { dirs = []; files = [] }) most_requests (Ok tt) (peer_of p) c.fetch-answer.new.copy) c.peer_over-peer.ensures.peer
           (subst (λ z. Fetched first z most_requests (Ok tt) (peer_of p) c.fetch-answer.new.copy) c.empty-copy.ensures.nothing c.in-Ok.ensures.fetched);
       file = file_of p.body (playing_of p.player);
-      came = c.in-Ok.ensures.since (g.D.Disk.state c.args.disk.now) c.peer_over-peer.ensures.since;
-      ends = subst (λ f. Writes (lines_of f) (g.K.Sink.stream c.args.sink.now) c.write_lines.result (g.K.Sink.stream c.write_lines.new.sink)) c.as_slice.ensures c.write_lines.ensures;
+      turns = came.turns;
+      few = few_turns p.turns came.turns came.counted (omega (arith, c.in-Ok.ensures.calls.turns, ap (λ (z : Calls). z.turns) c.peer_over-peer.ensures.calls));
+      came = came.came;
+      ends = subst (λ f. Writes (lines_of f) (g.K.Sink.stream c.args.sink.now) c.write_lines.result (g.K.Sink.stream c.write_lines.new.sink)) c.as_slice-files.ensures c.write_lines.ensures;
     })
 
 pub returns : goal.returns
@@ -33,17 +38,21 @@ returns g c =
     let p = c.fetch-answer.new.peer in
     let first = peer_of c.peer_over-peer.result in
     let none : p.refused ≡ 0 = none_refused (playing_of p.player).replies p.refused (omega (arith, c.in-Err.ensures.calls.replies, ap (λ (z : Calls). z.replies) c.peer_over-peer.ensures.calls)) in
+    let came = c.in-Err.ensures.since (g.D.Disk.state c.args.disk.now) c.peer_over-peer.ensures.since in
     let fetched = subst (λ z. Fetched first z most_requests (Err c.in-Err.error) (peer_of p) c.fetch-answer.new.copy) c.empty-copy.ensures.nothing c.in-Err.ensures.fetched in
-    mirrored _ _ (g.D.Disk.state p.player.store.disk.now) _ _ _ (search rules) (record {
+    mirrored _ _ (g.D.Disk.state p.player.store.disk.now) _ _ _ _ (search rules) (record {
       last = peer_of p;
       faults = same_faults (g.D.Disk.state p.player.store.disk.now).faults p.refused none;
       tells = λ v e. told_world p.heard (drop p.at p.piece) p.body (stage_of p.player) v e;
       copy = c.fetch-answer.new.copy;
+      reports = search rules;
       answer = Err c.in-Err.error;
       fetched = subst (λ s. Fetched s (record { dirs = []; files = [] }) most_requests (Err c.in-Err.error) (peer_of p) c.fetch-answer.new.copy) c.peer_over-peer.ensures.peer fetched;
       file = file_of p.body (playing_of p.player);
-      came = c.in-Err.ensures.since (g.D.Disk.state c.args.disk.now) c.peer_over-peer.ensures.since;
-      ends = ends_by_error c.in-Err.error c.fetch-answer.new.copy _ _ _ _ _ refl c.status_of.ensures
+      turns = came.turns;
+      few = few_turns p.turns came.turns came.counted (omega (arith, c.in-Err.ensures.calls.turns, ap (λ (z : Calls). z.turns) c.peer_over-peer.ensures.calls));
+      came = came.came;
+      ends = ends_by_error c.in-Err.error c.fetch-answer.new.copy _ _ _ _ _ refl c.status_of-status.ensures
           (λ is. disk_rose first (peer_of p) _ _ (ap (λ (z : PeerState). z.faults) c.peer_over-peer.ensures.peer) (same_faults (g.D.Disk.state p.player.store.disk.now).faults p.refused none)
           (fetched_rose first (peer_of p) _ c.fetch-answer.new.copy most_requests (subst (λ e. Fetched first (record { dirs = []; files = [] }) most_requests (Err e) (peer_of p) c.fetch-answer.new.copy) is fetched)));
     })

@@ -17,7 +17,7 @@ pub returns-clause-leaves : goal.returns-clause-leaves
 returns-clause-leaves g c = abandoned_leaves (stage_of c.args.player.now) (stage_of c.step.new.self) c.args.body (Err c.in-Err.error) c.in-Err.ensures.done
 
 pub returns-in-Ok-clause-ended : goal.returns-in-Ok-clause-ended
-returns-in-Ok-clause-ended g c = λ s came. came_ended s (stage_of c.args.player.now) (stage_of c.step.new.self) c.args.body c.in-Ok.field-0 c.in-Ok.ensures.done came
+returns-in-Ok-clause-ended g c = λ s count by. came_ended s count (stage_of c.args.player.now) (stage_of c.step.new.self) c.args.body c.in-Ok.field-0 c.in-Ok.ensures.done by
 
 pub returns-clause-held : goal.returns-clause-held
-returns-clause-held g c = λ s came. came_held s (stage_of c.args.player.now) (stage_of c.step.new.self) c.args.body c.in-Err.error c.in-Err.ensures.done came
+returns-clause-held g c = λ s count by. came_held s count (stage_of c.args.player.now) (stage_of c.step.new.self) c.args.body c.in-Err.error c.in-Err.ensures.done by

@@ -1,12 +1,13 @@
-use Rattle.std.proofs.Common.{◌≡◌, ◌<◌, ◌∙◌, Ok, Err, [], ap, drop, length, min, sym, arith}
+use Rattle.std.proofs.Common.{◌≡◌, ◌<◌, ◌∙◌, Ok, Err, [], ap, drop, length, min, subst, sym, arith}
 use Rattle.std.proofs.lemmas.List.{drop_all}
 use Rattle.dav_model.specs.Bodies.{read_size_of}
 use Rattle.dav_model.specs.declared.answer.Answer.TheVariants.{Broken, End, Piece}
 use Rattle.dav_model.specs.declared.step.Step.TheVariants.{Poll}
 use Rattle.dav_handler.specs.By.{by_store}
 use Rattle.dav_handler.specs.Held.{body_at}
-use Rattle.dav_handler.specs.Player.{stage_of}
+use Rattle.dav_handler.specs.Player.{playing_of, stage_of}
 use Rattle.dav_handler.proofs.Upkeep.{stays_full}
+use Rattle.dav_mirror.specs.Came.{CameBy, file_of}
 use Rattle.dav_mirror.specs.Playing.{peer_of}
 use Rattle.dav_mirror.specs.Seen.{peer_in}
 use Rattle.dav_mirror.proofs.Coming.{came_by_poll, came_same}
@@ -62,20 +63,21 @@ pub returns-in-Ok-Piece-clause-since : goal.returns-in-Ok-Piece-clause-since
 returns-in-Ok-Piece-clause-since g c =
     let p = c.args.self.now in
     let t = c.give-in-Ok-Piece.new.self in
-    λ s came. came_same s (stage_of c.poll_over.new.self) (stage_of t.player) p.body t.body c.give-in-Ok-Piece.ensures.stage c.give-in-Ok-Piece.ensures.body.0
-    (came_by_poll s (stage_of p.player) (stage_of c.poll_over.new.self) p.body c.in-Some.body (Ok c.in-Ok-Piece.field-0) c.in-Some.is c.in-Ok-Piece.ensures.done came)
+    λ s by. subst (λ n. CameBy s n (file_of t.body (playing_of t.player)) (g.D.Disk.state t.player.store.disk)) (sym c.give-in-Ok-Piece.ensures.turns)
+    (came_same s p.turns (stage_of c.poll_over.new.self) (stage_of t.player) p.body t.body c.give-in-Ok-Piece.ensures.stage c.give-in-Ok-Piece.ensures.body.0
+    (came_by_poll s p.turns (stage_of p.player) (stage_of c.poll_over.new.self) p.body c.in-Some.body (Ok c.in-Ok-Piece.field-0) c.in-Some.is c.in-Ok-Piece.ensures.done by))
 
 pub returns-in-Ok-End-clause-since : goal.returns-in-Ok-End-clause-since
 returns-in-Ok-End-clause-since g c =
     let p = c.args.self.now in
-    λ s came. came_by_poll s (stage_of p.player) (stage_of c.poll_over.new.self) p.body c.in-Some.body (Ok c.in-Ok-End.field-0) c.in-Some.is c.in-Ok-End.ensures.done came
+    λ s by. came_by_poll s p.turns (stage_of p.player) (stage_of c.poll_over.new.self) p.body c.in-Some.body (Ok c.in-Ok-End.field-0) c.in-Some.is c.in-Ok-End.ensures.done by
 
 pub returns-in-Ok-Broken-clause-since : goal.returns-in-Ok-Broken-clause-since
 returns-in-Ok-Broken-clause-since g c =
     let p = c.args.self.now in
-    λ s came. came_by_poll s (stage_of p.player) (stage_of c.poll_over.new.self) p.body c.in-Some.body (Ok c.in-Ok-Broken.field-0) c.in-Some.is c.in-Ok-Broken.ensures.done came
+    λ s by. came_by_poll s p.turns (stage_of p.player) (stage_of c.poll_over.new.self) p.body c.in-Some.body (Ok c.in-Ok-Broken.field-0) c.in-Some.is c.in-Ok-Broken.ensures.done by
 
 pub returns-clause-since : goal.returns-clause-since
 returns-clause-since g c =
     let p = c.args.self.now in
-    λ s came. came_by_poll s (stage_of p.player) (stage_of c.poll_over.new.self) p.body c.in-Some.body (Err c.in-Err.field-0) c.in-Some.is c.in-Err.ensures.done came
+    λ s by. came_by_poll s p.turns (stage_of p.player) (stage_of c.poll_over.new.self) p.body c.in-Some.body (Err c.in-Err.field-0) c.in-Some.is c.in-Err.ensures.done by
