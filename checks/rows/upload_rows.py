@@ -14,6 +14,7 @@ FRONT = ".upload-"
 MAKING = Options("write", "create_new")
 SETS = ("dir", "file", "fail")
 READS = ("open", "read", "close")
+AGED = ("before", "meanwhile")
 
 
 class Busy(Exception):
@@ -100,6 +101,38 @@ def sweep(store, path):
     return len(files)
 
 
+def left_before(store, path, limit):
+    """The files with hidden names that were changed before a time, among the members whose metadata was read."""
+    return [path.member(name, False) for name, stood in members_read(store, path)
+            if is_hidden(name) and stood.is_file and stood.time is not None and stood.time < limit]
+
+
+def take_each(store, paths):
+    """A name that is gone is passed over. Any other refusal ends it."""
+    count = 0
+    for path in paths:
+        try:
+            store.remove_file(path)
+            count += 1
+        except FsError as error:
+            if error.name != "NotFound":
+                raise
+    return count
+
+
+def sweep_by_age(store, words):
+    """Where another client takes a file meanwhile, it does so once the names are chosen."""
+    path, seconds = path_of(word(words, 1) or "/"), int(word(words, 2) or "0")
+    nanos = number(word(words, 3) or "0") if words[0] == "before" else 0
+    paths = left_before(store, path, seconds * SECOND + nanos)
+    if words[0] == "meanwhile":
+        try:
+            store.remove_file(path_of(words[3]))
+        except FsError:
+            pass
+    return take_each(store, paths)
+
+
 def get(store, path):
     handle = store.open(path, READING)
     return "has " + store.asks(store.disk.read, handle, MOST_BYTES).decode()
@@ -119,6 +152,8 @@ def call(store, words):
     path = path_of(word(words, 1) or "/")
     if words[0] == "sweep":
         return f"swept {sweep(store, path)}"
+    if words[0] in AGED:
+        return f"swept {sweep_by_age(store, words)}"
     if words[0] in ("rm", "mkdir"):
         (store.remove_file if words[0] == "rm" else store.create_dir)(path)
         return "done"
@@ -181,7 +216,7 @@ class Row:
             try:
                 return self.of_reader(words) if words[0] in READS else call(self.store, words)
             except FsError as error:
-                if words[0] == "sweep":
+                if words[0] == "sweep" or words[0] in AGED:
                     return f"refused {STATUSES[error.name]}"
                 return FS_TEXTS[error.name]
         try:

@@ -20,14 +20,18 @@ sys.path.insert(0, HERE)
 import upload_rows  # noqa: E402
 from calls import FS_TEXTS  # noqa: E402
 
-LISTS = 300
+LISTS, AGED_LISTS = 300, 60
 STEPS = 30
 HEADING = "# Random lists of uploads and readers."
+AGED_HEADING = "# Random lists with sweeps by age."
 FAULTS_HEADING = "# Each call fails in turn."
 SCENE = [("/d", None), ("/d/h", "in d"), ("/f.txt", "0123456789"), ("/g", "a longer text, of some pieces")]
 TARGETS = ["/f.txt", "/f.txt", "/f.txt", "/g", "/n", "/d/h", "/d/n"]
 ODD = ["/", "/d", "/d/", "/no/x", "/f.txt/x", "/.upload-x", "/d/.upload-0000000000000001", "/.uploadx"]
 FIELDS = ["", "", "", "", "", " if-match:*", " if-none-match:*"]
+# Hidden files that killed runs left, and their seconds. No upload of the lists is as old as one of them.
+LEFT = [("/.upload-000000000000000a", 1), ("/.upload-000000000000000b", 3), ("/d/.upload-000000000000000c", 2),
+        ("/d/.upload-000000000000000d", 3)]
 PIECES = ["a", "bc", "def", "0123", "a-longer-piece"]
 COUNTS = [1, 2, 3, 4, 5, 64]
 FAULTED = [
@@ -40,6 +44,10 @@ FAULTED = [
     " | names /",
     "file /f.txt 10 1 0123456789 | open /f.txt | 1 begin /f.txt 1 | 2 begin /f.txt 2 | 1 piece ab | 2 piece cd | read 4"
     " | 1 commit | 2 commit | read 64 | close | open /f.txt | read 64 | names /",
+    "file /f 10 1 old | file /.upload-000000000000000c 12 1 c | file /.upload-000000000000000d 13 2 d"
+    " | file /.upload-000000000000000e 14 3 e | before / 3 | names / | get /f",
+    "file /f 10 1 old | file /.upload-000000000000000c 12 1 c | file /.upload-000000000000000d 13 1 d"
+    " | meanwhile / 2 /.upload-000000000000000c | names / | get /f",
 ]
 
 
@@ -135,6 +143,31 @@ class Shown:
         return FS_TEXTS["NotFound"] if there is None else f"has {there[:64]}"
 
 
+class Aged(Shown):
+    """What is shown where hidden files were left. A sweep by age takes those that are older than its time, and no other."""
+
+    def __init__(self):
+        super().__init__()
+        self.left = dict(LEFT)
+
+    def names(self, path):
+        shown, front = super().names(path).split(" ")[2:], path.rstrip("/")
+        names = shown + [p.rpartition("/")[2] for p in self.left if p.rpartition("/")[0] == front]
+        return f"names {len(names)}" + "".join(f" {name}" for name in sorted(names))
+
+    def swept(self, path, limit, other=None):
+        gone = [p for p, time in self.left.items() if p.rpartition("/")[0] == path.rstrip("/") and time < limit]
+        if other in self.left or self.tree.get(other) is not None:
+            (self.left if other in self.left else self.tree).pop(other)
+        taken = [p for p in gone if self.left.pop(p, None) is not None]
+        return f"swept {len(taken)}"
+
+    def answer(self, words):
+        if words[0] in upload_rows.AGED:
+            return self.swept(words[1], int(words[2]), *words[3:])
+        return self.swept(words[1], 9) if words[0] == "sweep" else super().answer(words)
+
+
 def read_step(rng, shown):
     """A step of the reader that stays open: most read on in pieces, as long as there is something open."""
     if shown.reader is None and rng.randrange(10):
@@ -163,21 +196,37 @@ def step(rng, shown):
     return rng.choice(["names /", "names /d"] + ([] if shown.hidden else ["sweep /", "sweep /d/"]))
 
 
+def aged_step(rng, shown):
+    """A step, some of them sweeps by age, in which another client may take a file."""
+    kind, sweep = rng.randrange(6), f"{rng.choice(['/', '/d', '/d/'])} {rng.randrange(1, 5)}"
+    if kind == 0:
+        return f"before {sweep}"
+    if kind == 1:
+        return f"meanwhile {sweep} {rng.choice([path for path, _ in LEFT] + TARGETS)}"
+    return step(rng, shown)
+
+
 def scene():
     rows = [("dir" if text is None else "file", path, text) for path, text in SCENE if text is None or " " not in text]
     return " | ".join(f"{kind} {path} {10 + at} 1" + (f" {text}" if text is not None else "")
                       for at, (kind, path, text) in enumerate(rows))
 
 
-def random_list(seed):
+def random_list(seed, shown, makes, begins):
     """A list and what it is to be answered, but for how often the disk was asked."""
-    rng, shown = random.Random(seed), Shown()
+    rng = random.Random(seed)
     shown.tree = {path: text for path, text in shown.tree.items() if text is None or " " not in text}
     steps, answers = [], []
     for _ in range(STEPS):
-        steps.append(step(rng, shown))
+        steps.append(makes(rng, shown))
         answers.append(shown.answer(steps[-1].split(" ")))
-    return " | ".join([scene(), *steps]), " | ".join(answers) + " | "
+    return " | ".join([*begins, *steps]), " | ".join(answers) + " | "
+
+
+def random_lists():
+    left = [f"file {path} {50 + at} {seconds} left" for at, (path, seconds) in enumerate(LEFT)]
+    return ([random_list(seed, Shown(), step, [scene()]) for seed in range(LISTS)],
+            [random_list(1000 + seed, Aged(), aged_step, [scene(), *left]) for seed in range(AGED_LISTS)])
 
 
 def faulted(row):
@@ -187,12 +236,13 @@ def faulted(row):
 
 
 def own_rows():
-    randoms = [random_list(seed) for seed in range(LISTS)]
-    for row, wanted in randoms:
+    randoms, aged = random_lists()
+    for row, wanted in randoms + aged:
         got = upload_rows.wanted(row).rpartition("asked ")[0]
         if got != wanted:
             raise SystemExit(f"the models differ:\n{row}\n{got}\n{wanted}")
-    return {HEADING: [row for row, _ in randoms], FAULTS_HEADING: [row for one in FAULTED for row in faulted(one)]}
+    return {HEADING: [row for row, _ in randoms], FAULTS_HEADING: [row for one in FAULTED for row in faulted(one)],
+            AGED_HEADING: [row for row, _ in aged]}
 
 
 def check_faults(rows):
@@ -226,7 +276,8 @@ def main():
     elif lines != wanted:
         print("upload_rows: its rows aren't those of uploading.py")
         return 1
-    print(f"upload_rows: {sum(map(len, own.values()))} rows of lists, {LISTS} of them answered by two models alike")
+    print(f"upload_rows: {sum(map(len, own.values()))} rows of lists, {LISTS + AGED_LISTS} of them answered by two models"
+          " alike")
     return 0
 
 

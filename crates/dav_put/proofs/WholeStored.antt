@@ -64,6 +64,10 @@ gave i j taken bytes told (buffer, n, takes, some, is) =
 was_over : (i j : Stream) (bytes : List ℕ) → i.bytes ≡ Some bytes → IsOver i j → bytes ≡ []
 was_over i j bytes told (buffer, takes) = let (rest, left, old) = told_after i.bytes j.bytes _ bytes takes.told told in old.1 refl
 
+-- each handle counts as that of a body of a file that is shown
+abbrev each_counts : ℕ → Bool
+each_counts h = true
+
 module _ {S C F : Type 0} (view : View S C F) (writes : Writes F) (c : C) (test : S → Bool) (takes_all : TakesUploads view writes c test) where
   -- a world behind calls that changed nothing of what is shown
   record Waits (v : World) (m : S) : Type 0 where
@@ -121,7 +125,7 @@ module _ {S C F : Type 0} (view : View S C F) (writes : Writes F) (c : C) (test 
     pub at_target : u.target ≡ target
     pub token : ℕ
     pub at_hidden : u.hidden ≡ hidden_beside target token
-    pub stands : StandsIn (view.state m).live world u.hidden.names (view.file.handle u.file) u.broken pieces
+    pub stands : StandsIn each_counts (view.state m).live world u.hidden.names (view.file.handle u.file) u.broken pieces
     pub free : is_taken target ≡ false
 
   begun_going : (v : World) (target : WebPath) (fields : Fields) (token : ℕ) (s t : S) (u : Upload F) → IsOpenTo v target.names → Waits v s → Begins view c target fields token s (Ok u) t
@@ -135,7 +139,7 @@ module _ {S C F : Type 0} (view : View S C F) (writes : Writes F) (c : C) (test 
           let call = takes_all.opens m t (hidden_beside target token) (Ok file) y.plain opens in
           let (w, here, made) = told_after (view.state m).told (view.state t).told _ y.world call.1 y.here in
           let same : u ≡ upload_begun target token file = cc in
-          let did = began view writes c test takes_all s t x.world w x.here here target fields token (Ok u) x.plain (waits_clear v s target token clear x) begins in (
+          let did = began view writes c test takes_all each_counts s t x.world w x.here here target fields token (Ok u) x.plain (waits_clear v s target token clear x) begins in (
             record {
               world = w;
               here = here;
@@ -168,7 +172,7 @@ module _ {S C F : Type 0} (view : View S C F) (writes : Writes F) (c : C) (test 
       by false e (y, file, writes_so, is, answer) =
           let told = takes_all.writes_file m t u.file file bytes y writes_so (never_appends view writes c test takes_all ((view.state m).live (view.file.handle u.file)) g.stands.how) in
           let (w, here, wrote) = told_after (view.state m).told (view.state t).told _ g.world told g.here in
-          let (shown, links, stands) = pieced view writes c test takes_all u x m t g.world w bytes pieces r g.here here g.stands piece_so in
+          let (shown, links, stands) = pieced view writes c test takes_all each_counts u x m t g.world w bytes pieces r g.here here g.stands piece_so in
           record {
             world = w;
             here = here;
@@ -213,7 +217,7 @@ module _ {S C F : Type 0} (view : View S C F) (writes : Writes F) (c : C) (test 
   given_up v target pieces m t w u answer now clear g aborts =
       let free : is_linked g.world.tree u.hidden.names ≡ false =
       ap (λ (p : WebPath). is_linked g.world.tree p.names) g.at_hidden ∙ clear_beside g.world target g.token (open_still v g.world target.names g.links clear) in
-      shown_then v g.world w g.shown (aborted view writes c test takes_all u m t g.world w pieces g.here now g.stands g.plain answer free aborts)
+      shown_then v g.world w g.shown (aborted view writes c test takes_all each_counts u m t g.world w pieces g.here now g.stands g.plain answer free aborts)
 
   committed_so : (v : World) (target : WebPath) (fields : Fields) (pieces : List ℕ) (m t : S) (w : World) (u : Upload F) (r : Result Outcome UploadError) → target.names ≢ [] → (view.state t).told ≡ Some w → IsOpenTo v target.names
       → u.broken ≡ false → (g : Going v target pieces m u) → Commits view c u fields m r t → Committed target.names false pieces r g.world w
@@ -232,7 +236,7 @@ module _ {S C F : Type 0} (view : View S C F) (writes : Writes F) (c : C) (test 
       } in
       subst (λ p. Committed p false pieces r g.world w) here
       (subst (λ b. Committed u.target.names b pieces r g.world w) whole
-      (committed view writes c test takes_all u m t g.world w pieces g.here now g.stands g.plain fields r beside free commits))
+      (committed view writes c test takes_all each_counts u m t g.world w pieces g.here now g.stands g.plain fields r beside free commits))
 
   commit_from : (v u w : World) (target : Names) (pieces : List ℕ) → SameShown v u → IsCommitted u target pieces w → IsCommitted v target pieces w
   commit_from v u w target pieces same is = commit_between v u w w target pieces same is (λ p. refl)

@@ -1,5 +1,5 @@
 //! What the program does over a folder: over a local store.
-ghost use Rattle.std.specs.Prelude.{◌≡◌, ◌<◌, ℕ, List, None, Result, Some, length, true};
+ghost use Rattle.std.specs.Prelude.{◌≡◌, ◌<◌, ℕ, Bool, List, None, Result, Some, length, true};
 ghost use Rattle.dav_io.specs.Counts.{Rose};
 ghost use Rattle.dav_core.specs.DavPath.{WebPath};
 ghost use Rattle.dav_core.specs.World.{World};
@@ -33,8 +33,8 @@ use std::alloc::Global;
 /// its bytes. Else what is shown is as it was; only where the disk failed or memory was wanting at the last call, which
 /// moves the file to its place, it may be there whole. A sweep leaves what is shown, and where no link stands in the
 /// directory it takes exactly the regular files with hidden names there that were changed so many seconds before the
-/// moment, and each upload that was written to since goes on standing. It ends with `DiskFailed` only where the disk's
-/// count of faults rose.
+/// moment, and each upload that was written to since goes on standing, whichever handles count as those of bodies of
+/// files that are shown. It ends with `DiskFailed` only where the disk's count of faults rose.
 pub fn perform_local<D: Disk, R: Remember, I: Source>(
     alloc: Global,
     fs: &mut LocalFs<D, R>,
@@ -59,10 +59,11 @@ pub fn perform_local<D: Disk, R: Remember, I: Source>(
         → HasClearNames v dir.names → is_clear v.tree dir.names ≡ true
         → (r : Result ℕ Refusal) × SweptBefore dir.names (limit_of moment older) r (D.state fs.old.disk).faults
         (D.state fs.new.disk).faults v w × (result ≡ ending_swept r) }
-    ensures others { (dir : WebPath) (older : ℕ) → task.now ≡ Sweep dir older → finds_as_written fs.old.ways ≡ true
+    ensures others { (shown : ℕ → Bool) (dir : WebPath) (older : ℕ) → task.now ≡ Sweep dir older
+        → finds_as_written fs.old.ways ≡ true
         → (v w : World) → (D.state fs.old.disk).told ≡ Some v → (D.state fs.new.disk).told ≡ Some w
         → HasClearNames v dir.names → is_clear v.tree dir.names ≡ true
-        → LeavesOthers None (IsNotLeftBefore v dir.names (limit_of moment older)) (D.state fs.old.disk).live
+        → LeavesOthers shown None (IsNotLeftBefore v dir.names (limit_of moment older)) (D.state fs.old.disk).live
         (D.state fs.new.disk).live v w }
     ensures failed { result ≡ Ending.DiskFailed → Rose (D.state fs.old.disk).faults (D.state fs.new.disk).faults }
 {
@@ -100,10 +101,10 @@ pub fn put<D: Disk, R: Remember + Drop, I: Source>(
         → HasClearNames v dir.names → is_clear v.tree dir.names ≡ true
         → (r : Result ℕ Refusal) × SweptBefore dir.names (limit_of moment older) r (D.state disk).faults
         (D.state result.1).faults v w × (result.0 ≡ ending_swept r) }
-    ensures others { (dir : WebPath) (older : ℕ) → task.now ≡ Sweep dir older
+    ensures others { (shown : ℕ → Bool) (dir : WebPath) (older : ℕ) → task.now ≡ Sweep dir older
         → (v w : World) → (D.state disk).told ≡ Some v → (D.state result.1).told ≡ Some w
         → HasClearNames v dir.names → is_clear v.tree dir.names ≡ true
-        → LeavesOthers None (IsNotLeftBefore v dir.names (limit_of moment older)) (D.state disk).live
+        → LeavesOthers shown None (IsNotLeftBefore v dir.names (limit_of moment older)) (D.state disk).live
         (D.state result.1).live v w }
     ensures failed { result.0 ≡ Ending.DiskFailed → Rose (D.state disk).faults (D.state result.1).faults }
 {

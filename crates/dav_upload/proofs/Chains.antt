@@ -128,13 +128,13 @@ module _ {S C F : Type 0} (view : View S C F) (writes : Writes F) (c : C) (test 
 
   -- ---- begin
 
-  module _ (s t : S) (v w : World) (was : (view.state s).told ≡ Some v) (now : (view.state t).told ≡ Some w) where
+  module _ (shown : ℕ → Bool) (s t : S) (v w : World) (was : (view.state s).told ≡ Some v) (now : (view.state t).told ≡ Some w) where
     pub opened_began : (target : WebPath) (token : ℕ) (u : World) (m : S) (opened : Result F FsError) (r : Result (Upload F) UploadError) → (view.state m).told ≡ Some u → SameBesidesOpens v u
         → is_linked u.tree (hidden_beside target token).names ≡ false → plain m → view.opens m c (hidden_beside target token) upload_options opened t
-        → OpensOne view.file upload_options (view.state m) opened (view.state t) → r ≡ opened_as target token opened → Began view.file.handle (view.state t).live r v w
+        → OpensOne view.file upload_options (view.state m) opened (view.state t) → r ≡ opened_as target token opened → Began shown view.file.handle (view.state t).live r v w
     opened_began target token u m (Err e) r here same clear p opens one is =
         let told = told_pair (view.state m).told (view.state t).told _ u w (takes_all.opens m t (hidden_beside target token) (Err e) p opens).1 here now in
-        subst (λ x. Began view.file.handle (view.state t).live x v w) (sym is) (shown_then v u w (kept_unseen v u same) (kept_unseen u w (told clear)))
+        subst (λ x. Began shown view.file.handle (view.state t).live x v w) (sym is) (shown_then v u w (kept_unseen v u same) (kept_unseen u w (told clear)))
     opened_began target token u m (Ok f) r here same clear p opens one is =
         let path = (hidden_beside target token).names in
         let (edit, row, allowed, edited, at, open_at, of_kind) = told_pair (view.state m).told (view.state t).told _ u w (takes_all.opens m t (hidden_beside target token) (Ok f) p opens).1 here now clear in
@@ -149,35 +149,35 @@ module _ {S C F : Type 0} (view : View S C F) (writes : Writes F) (c : C) (test 
           lives = one.others.live;
           opens = λ k l ne alive. told_pair (view.state m).told (view.state t).told _ u w (one.others.opens k l ne alive) here now;
         } in
-        subst (λ x. Began view.file.handle (view.state t).live x v w) (sym is) (
+        subst (λ x. Began shown view.file.handle (view.state t).live x v w) (sym is) (
           shown_then v u w (kept_unseen v u same) unseen,
           links_then v u w (links_kept v u same) (links_made u w path [] did),
-          made_stands (view.file.handle f) (view.state m).live (view.state t).live u w others path (view.file.handle f) row world hides none did unseen at refl one.live one.options of_kind open_at,
+          made_stands shown (view.file.handle f) (view.state m).live (view.state t).live u w others path (view.file.handle f) row world hides none did unseen at refl one.live one.options of_kind open_at,
         )
 
-    refused_began : (r : Result (Upload F) UploadError) (e : UploadError) → r ≡ Err e → SameShown v w → Began view.file.handle (view.state t).live r v w
-    refused_began r e is same = subst (λ x. Began view.file.handle (view.state t).live x v w) (sym is) same
+    refused_began : (r : Result (Upload F) UploadError) (e : UploadError) → r ≡ Err e → SameShown v w → Began shown view.file.handle (view.state t).live r v w
+    refused_began r e is same = subst (λ x. Began shown view.file.handle (view.state t).live x v w) (sym is) same
 
     stays_told : (m : S) → t ≡ m → (u : World) → (view.state m).told ≡ Some u → u ≡ w
     stays_told m same u here = one_told (view.state m).told u w here (sym (ap (λ x. (view.state x).told) same) ∙ now)
 
     pub began : (target : WebPath) (fields : Fields) (token : ℕ) (r : Result (Upload F) UploadError) → plain s → is_linked v.tree (hidden_beside target token).names ≡ false
-        → Begins view c target fields token s r t → Began view.file.handle (view.state t).live r v w
+        → Begins view c target fields token s r t → Began shown view.file.handle (view.state t).live r v w
     began target fields token r p clear begins = by (is_taken target) begins
       where
-        judged : Judges view c target fields token s r t → Began view.file.handle (view.state t).live r v w
+        judged : Judges view c target fields token s r t → Began shown view.file.handle (view.state t).live r v w
         judged j = by_may j.may j.opens
           where
             there : (u : World) × ((view.state j.judged).told ≡ Some u) × SameBesidesOpens v u
             there = told_after (view.state s).told (view.state j.judged).told SameBesidesOpens v j.keeps.world was
 
-            by_may : (may : Given) → AfterJudging view c may target token j.judged r t → Began view.file.handle (view.state t).live r v w
+            by_may : (may : Given) → AfterJudging view c may target token j.judged r t → Began shown view.file.handle (view.state t).live r v w
             by_may (Err e) (same, is) = refused_began r _ is (shown_then v there.0 w (kept_unseen v there.0 there.2) (shown_same there.0 w (stays_told j.judged same there.0 there.1)))
             by_may (Ok outcome) (opened, opens, one, is) =
                 opened_began target token there.0 j.judged opened r there.1 there.2
                 (ap (λ tree. is_linked tree (hidden_beside target token).names) there.2.tree ∙ clear) (judged_plain target fields s j.may j.judged p j.judges) opens one is
 
-        by : (b : Bool) → BeginsAs view c b target fields token s r t → Began view.file.handle (view.state t).live r v w
+        by : (b : Bool) → BeginsAs view c b target fields token s r t → Began shown view.file.handle (view.state t).live r v w
         by true (same, is) = refused_began r _ is (shown_same v w (stays_told s same v was))
         by false (inl (same, is)) = refused_began r _ is (shown_same v w (stays_told s same v was))
         by false (inr j) = judged j
@@ -188,11 +188,11 @@ module _ {S C F : Type 0} (view : View S C F) (writes : Writes F) (c : C) (test 
   never_appends None how = refl
   never_appends (Some l) how = rw (how l refl) refl
 
-  pub pieced : (u x : Upload F) (s t : S) (v w : World) (bytes pieces : List ℕ) (r : Result Unit UploadError) → (view.state s).told ≡ Some v → (view.state t).told ≡ Some w
-      → StandsIn (view.state s).live v u.hidden.names (view.file.handle u.file) u.broken pieces → WritesPiece view writes u bytes s r t x → Pieced view.file.handle (view.state t).live x pieces bytes v w
-  pieced u x s t v w bytes pieces r was now stands writes_piece = by u.broken refl writes_piece
+  pub pieced : (shown : ℕ → Bool) (u x : Upload F) (s t : S) (v w : World) (bytes pieces : List ℕ) (r : Result Unit UploadError) → (view.state s).told ≡ Some v → (view.state t).told ≡ Some w
+      → StandsIn shown (view.state s).live v u.hidden.names (view.file.handle u.file) u.broken pieces → WritesPiece view writes u bytes s r t x → Pieced shown view.file.handle (view.state t).live x pieces bytes v w
+  pieced shown u x s t v w bytes pieces r was now stands writes_piece = by u.broken refl writes_piece
     where
-      any_pieces : (broken : Bool) → u.broken ≡ broken → broken ≡ true → StandsIn (view.state s).live v u.hidden.names (view.file.handle u.file) u.broken (pieces ++ bytes)
+      any_pieces : (broken : Bool) → u.broken ≡ broken → broken ≡ true → StandsIn shown (view.state s).live v u.hidden.names (view.file.handle u.file) u.broken (pieces ++ bytes)
       any_pieces broken e f = record {
         lives = stands.lives;
         how = stands.how;
@@ -210,7 +210,7 @@ module _ {S C F : Type 0} (view : View S C F) (writes : Writes F) (c : C) (test 
       }
 
       by_result : (y : Result Unit FsError) (file : F) → u.broken ≡ false → WritesFile view writes s u.file bytes y t file → x ≡ record u { file = file; broken = is_refused y }
-          → Pieced view.file.handle (view.state t).live x pieces bytes v w
+          → Pieced shown view.file.handle (view.state t).live x pieces bytes v w
       by_result y file whole writes_so is = by_answer y writes_so is
         where
           h : ℕ
@@ -230,38 +230,38 @@ module _ {S C F : Type 0} (view : View S C F) (writes : Writes F) (c : C) (test 
               told_pair (view.state s).told (view.state t).told _ v w (takes_all.writes_file s t u.file file bytes y so (never_appends ((view.state s).live h) stands.how)) was now stands.held stands.opens within
 
           there : (y : Result Unit FsError) (wrong : Bool) → WritesFile view writes s u.file bytes y t file → is_refused y ≡ wrong → x ≡ record u { file = file; broken = is_refused y } → SameShown v w → SameLinks v w
-              → StandsIn (view.state t).live w u.hidden.names h wrong (pieces ++ bytes) → Pieced view.file.handle (view.state t).live x pieces bytes v w
+              → StandsIn shown (view.state t).live w u.hidden.names h wrong (pieces ++ bytes) → Pieced shown view.file.handle (view.state t).live x pieces bytes v w
           there y wrong so e is same links stands_now =
-              subst (λ z. Pieced view.file.handle (view.state t).live z pieces bytes v w) (sym is) (
+              subst (λ z. Pieced shown view.file.handle (view.state t).live z pieces bytes v w) (sym is) (
                 same,
                 links,
-                subst (λ b. StandsIn (view.state t).live w u.hidden.names (view.file.handle file) b (pieces ++ bytes)) (sym e)
-                    (subst (λ k. StandsIn (view.state t).live w u.hidden.names k wrong (pieces ++ bytes)) (sym so.handle) stands_now),
+                subst (λ b. StandsIn shown (view.state t).live w u.hidden.names (view.file.handle file) b (pieces ++ bytes)) (sym e)
+                    (subst (λ k. StandsIn shown (view.state t).live w u.hidden.names k wrong (pieces ++ bytes)) (sym so.handle) stands_now),
               )
 
-          by_answer : (y : Result Unit FsError) → WritesFile view writes s u.file bytes y t file → x ≡ record u { file = file; broken = is_refused y } → Pieced view.file.handle (view.state t).live x pieces bytes v w
+          by_answer : (y : Result Unit FsError) → WritesFile view writes s u.file bytes y t file → x ≡ record u { file = file; broken = is_refused y } → Pieced shown view.file.handle (view.state t).live x pieces bytes v w
           by_answer (Ok z) so is =
               let (edited, opens) = did (Ok z) so in
               let (all, place) = stands.whole whole in
               let text : written stands.held.place bytes (bytes_of v stands.held.number) ≡ pieces ++ bytes =
               ap (λ p. written p bytes (bytes_of v stands.held.number)) place ∙ (ap (written (length pieces) bytes) all ∙ written_behind bytes pieces) in
               there (Ok z) false so refl is (filled_unseen v w stands.held.number _ stands.unseen edited) (links_filled v w stands.held.number _ edited)
-              (written_stands h (view.state s).live (view.state t).live v w (others (Ok z) so) u.hidden.names h u.broken false pieces (pieces ++ bytes) stands
+              (written_stands shown h (view.state s).live (view.state t).live v w (others (Ok z) so) u.hidden.names h u.broken false pieces (pieces ++ bytes) stands
               (record stands.held { place = stands.held.place + length bytes }) _ refl edited so.told.live opens refl
               (λ e. (text, ap (λ p. p + length bytes) place ∙ sym (length-append pieces bytes))))
           by_answer (Err e) so is =
               let (n, open_now, edited, opens, number) = did (Err e) so in
               there (Err e) true so refl is (filled_unseen v w stands.held.number _ stands.unseen edited) (links_filled v w stands.held.number _ edited)
-              (written_stands h (view.state s).live (view.state t).live v w (others (Err e) so) u.hidden.names h u.broken true pieces (pieces ++ bytes) stands open_now _ refl edited so.told.live opens number (λ f. cc))
+              (written_stands shown h (view.state s).live (view.state t).live v w (others (Err e) so) u.hidden.names h u.broken true pieces (pieces ++ bytes) stands open_now _ refl edited so.told.live opens number (λ f. cc))
 
-      by : (b : Bool) → u.broken ≡ b → PieceOn view writes b u bytes s r t x → Pieced view.file.handle (view.state t).live x pieces bytes v w
+      by : (b : Bool) → u.broken ≡ b → PieceOn view writes b u bytes s r t x → Pieced shown view.file.handle (view.state t).live x pieces bytes v w
       by true e (same, is, refused) =
           let world : v ≡ w = one_told (view.state s).told v w was (sym (ap (λ y. (view.state y).told) same) ∙ now) in
-          subst (λ z. Pieced view.file.handle (view.state t).live z pieces bytes v w) (sym is) (
+          subst (λ z. Pieced shown view.file.handle (view.state t).live z pieces bytes v w) (sym is) (
             shown_same v w world,
             links_same v w world,
-            subst (λ y. StandsIn (view.state y).live w u.hidden.names (view.file.handle u.file) u.broken (pieces ++ bytes)) (sym same)
-                (subst (λ z. StandsIn (view.state s).live z u.hidden.names (view.file.handle u.file) u.broken (pieces ++ bytes)) world (any_pieces true e refl)),
+            subst (λ y. StandsIn shown (view.state y).live w u.hidden.names (view.file.handle u.file) u.broken (pieces ++ bytes)) (sym same)
+                (subst (λ z. StandsIn shown (view.state s).live z u.hidden.names (view.file.handle u.file) u.broken (pieces ++ bytes)) world (any_pieces true e refl)),
           )
       by false e (y, file, writes_so, is, answer) = by_result y file e writes_so is
 
@@ -278,8 +278,8 @@ module _ {S C F : Type 0} (view : View S C F) (writes : Writes F) (c : C) (test 
         | inr same ↦ kept_unseen y w same
       ]
 
-  module _ (u : Upload F) (s t : S) (v w : World) (pieces : List ℕ) (was : (view.state s).told ≡ Some v) (now : (view.state t).told ≡ Some w)
-      (stands : StandsIn (view.state s).live v u.hidden.names (view.file.handle u.file) u.broken pieces) (p : plain s) where
+  module _ (shown : ℕ → Bool) (u : Upload F) (s t : S) (v w : World) (pieces : List ℕ) (was : (view.state s).told ≡ Some v) (now : (view.state t).told ≡ Some w)
+      (stands : StandsIn shown (view.state s).live v u.hidden.names (view.file.handle u.file) u.broken pieces) (p : plain s) where
     -- the world where the file was closed, or later, before anything was changed
     record Waits (m : S) : Type 0 where
       pub world : World

@@ -43,56 +43,56 @@ frame_open s t v w was now k own = record {
 
 -- ---- what is left, by what is open and what stays
 
-module _ (live then : ℕ → Option Live) (v w : World) (is : IsWorld v) (P : ℕ → Type 0) (other : Names → Type 0) (leaves : Leaves P other v w)
+module _ (shown : ℕ → Bool) (live then : ℕ → Option Live) (v w : World) (is : IsWorld v) (P : ℕ → Type 0) (other : Names → Type 0) (leaves : Leaves P other v w)
     (of_row : (path : Names) (row : Row) → other path → row_at v.tree path ≡ Some row → P row.number) where
   pub file_left : (path : Names) (row : Row) → other path → row_at v.tree path ≡ Some row → Holds w row.number → bytes_of w row.number ≡ bytes_of v row.number
   file_left path row is_other at holds = (leaves.bytes row.number (of_row path row is_other at) holds).1
 
   module _ (own : ℕ) (frame : OthersOpen own live then v w) where
-    pub body_left : (k : ℕ) (l : Live) (o : OpenFile) → k ≢ own → P o.number → live k ≡ Some l → v.opens k ≡ Some o → (then k ≡ Some l) × (w.opens k ≡ Some o) × (bytes_of w o.number ≡ bytes_of v o.number)
+    pub body_left : (k : ℕ) (l : Live) (o : OpenFile) → k ≢ own → (shown k ≡ true → P o.number) → live k ≡ Some l → v.opens k ≡ Some o → (then k ≡ Some l) × (w.opens k ≡ Some o) × (shown k ≡ true → bytes_of w o.number ≡ bytes_of v o.number)
     body_left k l o ne of alive opens =
         let still : w.opens k ≡ Some o = frame.opens k l ne alive ∙ opens in
-        (frame.lives k ne ∙ alive, still, (leaves.bytes o.number of (inr (k, ap (option_map (λ (x : OpenFile). x.number)) still))).1)
+        (frame.lives k ne ∙ alive, still, λ counts. (leaves.bytes o.number (of counts) (inr (k, ap (option_map (λ (x : OpenFile). x.number)) still))).1)
 
-    pub upload_left : (hidden : Names) (h : ℕ) (broken : Bool) (pieces : List ℕ) → other hidden → (s : StandsIn live v hidden h broken pieces) → h ≢ own → IsUnseen w s.held.number
-        → ((l : Live) (o : OpenFile) → then own ≡ Some l → w.opens own ≡ Some o → o.number ≢ s.held.number) → StandsIn then w hidden h broken pieces
+    pub upload_left : (hidden : Names) (h : ℕ) (broken : Bool) (pieces : List ℕ) → other hidden → (s : StandsIn shown live v hidden h broken pieces) → h ≢ own → IsUnseen w s.held.number
+        → ((l : Live) (o : OpenFile) → shown own ≡ true → then own ≡ Some l → w.opens own ≡ Some o → o.number ≢ s.held.number) → StandsIn shown then w hidden h broken pieces
     upload_left hidden h broken pieces is_other s ne unseen fresh =
-        other_stands own live then v w frame hidden h broken pieces s ne (leaves.rows hidden is_other) (λ was. unseen)
+        other_stands shown own live then v w frame hidden h broken pieces s ne (leaves.rows hidden is_other) (λ was. unseen)
         (λ holds. (leaves.bytes s.held.number (subst P s.number (of_row hidden s.row is_other s.at)) holds).1) fresh
 
     -- the upload of the step stands, so that no other has its number
-    pub fresh_from : (path : Names) (bad : Bool) (all : List ℕ) → StandsIn then w path own bad all → (hidden : Names) (h : ℕ) (broken : Bool) (pieces : List ℕ) → (s : StandsIn live v hidden h broken pieces) → h ≢ own
-        → (l : Live) (o : OpenFile) → then own ≡ Some l → w.opens own ≡ Some o → o.number ≢ s.held.number
-    fresh_from path bad all n hidden h broken pieces s ne l o is_live opens e =
-        let (m, alive) = some_of (live h) s.lives in
+    pub fresh_from : IsWorld w → (path : Names) (bad : Bool) (all : List ℕ) → StandsIn shown then w path own bad all → (hidden : Names) (h : ℕ) (broken : Bool) (pieces : List ℕ) → other hidden → hidden ≢ path
+        → (s : StandsIn shown live v hidden h broken pieces) → (l : Live) (o : OpenFile) → shown own ≡ true → then own ≡ Some l → w.opens own ≡ Some o → o.number ≢ s.held.number
+    fresh_from now path bad all n hidden h broken pieces is_other ne s l o counts is_live opens e =
+        let (row, at, kind, number) = leaves.rows hidden is_other s.row s.at in
         let same : Some n.held ≡ Some o = sym n.opens ∙ opens in
         let here : n.held ≡ o = cc in
-        ne (n.apart h m s.held (frame.lives h ne ∙ alive) (frame.opens h m ne alive ∙ s.opens) (sym e ∙ ap (λ (x : OpenFile). x.number) (sym here)))
+        ne (one_path w now hidden path row n.row at n.at (number ∙ (s.number ∙ (sym e ∙ (ap (λ (x : OpenFile). x.number) (sym here) ∙ sym n.number)))))
 
   -- Nothing was opened or closed.
-  pub all_left : ((own : ℕ) → OthersOpen own live then v w) → SameShown v w → ((k : ℕ) (l : Live) (o : OpenFile) → live k ≡ Some l → v.opens k ≡ Some o → P o.number) → LeavesOthers None other live then v w
+  pub all_left : ((own : ℕ) → OthersOpen own live then v w) → SameShown v w → ((k : ℕ) (l : Live) (o : OpenFile) → live k ≡ Some l → v.opens k ≡ Some o → P o.number) → LeavesOthers shown None other live then v w
   all_left frames same of_body = record {
     files = file_left;
-    bodies = λ k l o ne alive opens. body_left (k + 1) (frames (k + 1)) k l o (λ e. omega (arith, e)) (of_body k l o alive opens) alive opens;
+    bodies = λ k l o ne alive opens. body_left (k + 1) (frames (k + 1)) k l o (λ e. omega (arith, e)) (λ counts. of_body k l o alive opens) alive opens;
     uploads = λ hidden h broken pieces is_other s.
         upload_left (h + 1) (frames (h + 1)) hidden h broken pieces is_other s (λ e. omega (arith, e)) (unseen_same v w s.held.number same s.unseen)
-        (λ l o is_live opens e.
+        (λ l o counts is_live opens e.
         (let frame = frames (h + 2) in
         let ne : h + 1 ≢ h + 2 = λ f. omega (arith, f) in
         let was : live (h + 1) ≡ Some l = sym (frame.lives (h + 1) ne) ∙ is_live in
-        let back : h + 1 ≡ h = s.apart (h + 1) l o was (sym (frame.opens (h + 1) l ne was) ∙ opens) e in
+        let back : h + 1 ≡ h = s.apart (h + 1) l o counts was (sym (frame.opens (h + 1) l ne was) ∙ opens) e in
         omega (arith, back)));
   }
 
 -- ---- calls that change nothing that stands
 
-pub quiet_left : (other : Names → Type 0) (s t : DiskState) (v w : World) → s.told ≡ Some v → t.told ≡ Some w → IsWorld v → KeepsOpen s t → SameBesidesOpens v w → LeavesOthers None other s.live t.live v w
-quiet_left other s t v w was now is keeps same =
-    all_left s.live t.live v w is (λ n. Unit {0}) other (leaves_same (λ n. Unit {0}) other v w same) (λ path row is_other at. tt) (frame_open s t v w was now keeps) (kept_unseen v w same) (λ k l o alive opens. tt)
+pub quiet_left : (shown : ℕ → Bool) (other : Names → Type 0) (s t : DiskState) (v w : World) → s.told ≡ Some v → t.told ≡ Some w → IsWorld v → KeepsOpen s t → SameBesidesOpens v w → LeavesOthers shown None other s.live t.live v w
+quiet_left shown other s t v w was now is keeps same =
+    all_left shown s.live t.live v w is (λ n. Unit {0}) other (leaves_same (λ n. Unit {0}) other v w same) (λ path row is_other at. tt) (frame_open s t v w was now keeps) (kept_unseen v w same) (λ k l o alive opens. tt)
 
 -- what is left to all is left to all but one
-pub left_but : (own : ℕ) (other : Names → Type 0) (live then : ℕ → Option Live) (v w : World) → LeavesOthers None other live then v w → LeavesOthers (Some own) other live then v w
-left_but own other live then v w left = record {
+pub left_but : (shown : ℕ → Bool) (own : ℕ) (other : Names → Type 0) (live then : ℕ → Option Live) (v w : World) → LeavesOthers shown None other live then v w → LeavesOthers shown (Some own) other live then v w
+left_but shown own other live then v w left = record {
   files = left.files;
   bodies = λ k l o ne. left.bodies k l o (λ e. cc);
   uploads = left.uploads;
@@ -102,30 +102,30 @@ pub not_own : (own k : ℕ) → ◌≢◌ {A = Option ℕ} (Some own) (Some k) �
 not_own own k ne e = ne (ap (λ n. Some n) (sym e))
 
 -- an upload with another hidden path has another number, and another handle
-pub other_number : (v : World) → IsWorld v → (live : ℕ → Option Live) (p q : Names) (h k : ℕ) (a b : Bool) (x y : List ℕ) → (m : StandsIn live v p h a x) → (n : StandsIn live v q k b y) → q ≢ p → n.held.number ≢ m.held.number
-other_number v is live p q h k a b x y m n ne e = ne (one_path v is q p n.row m.row n.at m.at (n.number ∙ (e ∙ sym m.number)))
+pub other_number : (shown : ℕ → Bool) (v : World) → IsWorld v → (live : ℕ → Option Live) (p q : Names) (h k : ℕ) (a b : Bool) (x y : List ℕ) → (m : StandsIn shown live v p h a x) → (n : StandsIn shown live v q k b y) → q ≢ p → n.held.number ≢ m.held.number
+other_number shown v is live p q h k a b x y m n ne e = ne (one_path v is q p n.row m.row n.at m.at (n.number ∙ (e ∙ sym m.number)))
 
-pub other_handle : (v : World) → IsWorld v → (live : ℕ → Option Live) (p q : Names) (h k : ℕ) (a b : Bool) (x y : List ℕ) → StandsIn live v p h a x → StandsIn live v q k b y → q ≢ p → k ≢ h
-other_handle v is live p q h k a b x y m n ne e =
+pub other_handle : (shown : ℕ → Bool) (v : World) → IsWorld v → (live : ℕ → Option Live) (p q : Names) (h k : ℕ) (a b : Bool) (x y : List ℕ) → StandsIn shown live v p h a x → StandsIn shown live v q k b y → q ≢ p → k ≢ h
+other_handle shown v is live p q h k a b x y m n ne e =
     let same : Some n.held ≡ Some m.held = sym n.opens ∙ (ap v.opens e ∙ m.opens) in
     let here : n.held ≡ m.held = cc in
-    other_number v is live p q h k a b x y m n ne (ap (λ (o : OpenFile). o.number) here)
+    other_number shown v is live p q h k a b x y m n ne (ap (λ (o : OpenFile). o.number) here)
 
 -- ---- the three ways of a step's own upload
 
-module _ (s t : DiskState) (v w : World) (was : s.told ≡ Some v) (now : t.told ≡ Some w) (is : IsWorld v) (path : Names) (h : ℕ) (keeps : KeepsOpenBut h s t) where
+module _ (shown : ℕ → Bool) (s t : DiskState) (v w : World) (was : s.told ≡ Some v) (now : t.told ≡ Some w) (is : IsWorld v) (path : Names) (h : ℕ) (keeps : KeepsOpenBut h s t) where
   frame : OthersOpen h s.live t.live v w
   frame = frame_but h s t v w was now keeps
 
   -- It began.
-  pub new_left : Leaves (λ n. n ≤ v.greatest) (IsNot path) v w → s.live h ≡ None → SameShown v w → StandsIn t.live w path h false [] → LeavesOthers None (IsNot path) s.live t.live v w
-  new_left leaves fresh shown stands = record {
-    files = file_left s.live t.live v w is (λ n. n ≤ v.greatest) (IsNot path) leaves of_row;
-    bodies = λ k l o ne alive opens. body_left s.live t.live v w is (λ n. n ≤ v.greatest) (IsNot path) leaves of_row h frame k l o (dead k l alive) (is.given.opens k o opens) alive opens;
+  pub new_left : Leaves (λ n. n ≤ v.greatest) (IsNot path) v w → s.live h ≡ None → SameShown v w → IsWorld w → StandsIn shown t.live w path h false [] → LeavesOthers shown None (IsNot path) s.live t.live v w
+  new_left leaves fresh same is_now stands = record {
+    files = file_left shown s.live t.live v w is (λ n. n ≤ v.greatest) (IsNot path) leaves of_row;
+    bodies = λ k l o ne alive opens. body_left shown s.live t.live v w is (λ n. n ≤ v.greatest) (IsNot path) leaves of_row h frame k l o (dead k l alive) (λ counts. is.given.opens k o opens) alive opens;
     uploads = λ hidden k broken pieces ne other.
         (let away : k ≢ h = λ e. (let (l, alive) = some_of (s.live k) other.lives in dead k l alive e) in
-        upload_left s.live t.live v w is (λ n. n ≤ v.greatest) (IsNot path) leaves of_row h frame hidden k broken pieces ne other away (unseen_same v w other.held.number shown other.unseen)
-        (fresh_from s.live t.live v w is (λ n. n ≤ v.greatest) (IsNot path) leaves of_row h frame path false [] stands hidden k broken pieces other away));
+        upload_left shown s.live t.live v w is (λ n. n ≤ v.greatest) (IsNot path) leaves of_row h frame hidden k broken pieces ne other away (unseen_same v w other.held.number same other.unseen)
+        (fresh_from shown s.live t.live v w is (λ n. n ≤ v.greatest) (IsNot path) leaves of_row h frame is_now path false [] stands hidden k broken pieces ne ne other));
   }
     where
       of_row : (x : Names) (row : Row) → IsNot path x → row_at v.tree x ≡ Some row → row.number ≤ v.greatest
@@ -134,31 +134,31 @@ module _ (s t : DiskState) (v w : World) (was : s.told ≡ Some v) (now : t.told
       dead : (k : ℕ) (l : Live) → s.live k ≡ Some l → k ≢ h
       dead k l alive e = let g : Some l ≡ None = sym alive ∙ (ap s.live e ∙ fresh) in cc
 
-  module _ (bad : Bool) (pieces : List ℕ) (stood : StandsIn s.live v path h bad pieces) where
+  module _ (bad : Bool) (pieces : List ℕ) (stood : StandsIn shown s.live v path h bad pieces) where
     -- Its file was written.
-    pub written_left : (wrong : Bool) (all : List ℕ) → Leaves (λ n. n ≢ stood.held.number) (IsNot path) v w → SameShown v w → StandsIn t.live w path h wrong all → LeavesOthers (Some h) (IsNot path) s.live t.live v w
-    written_left wrong all leaves shown stands = record {
-      files = file_left s.live t.live v w is (λ n. n ≢ stood.held.number) (IsNot path) leaves of_row;
+    pub written_left : (wrong : Bool) (all : List ℕ) → Leaves (λ n. n ≢ stood.held.number) (IsNot path) v w → SameShown v w → IsWorld w → StandsIn shown t.live w path h wrong all → LeavesOthers shown (Some h) (IsNot path) s.live t.live v w
+    written_left wrong all leaves same is_now stands = record {
+      files = file_left shown s.live t.live v w is (λ n. n ≢ stood.held.number) (IsNot path) leaves of_row;
       bodies = λ k l o ne alive opens.
-          body_left s.live t.live v w is (λ n. n ≢ stood.held.number) (IsNot path) leaves of_row h frame k l o (not_own h k ne) (λ e. not_own h k ne (stood.apart k l o alive opens e)) alive opens;
+          body_left shown s.live t.live v w is (λ n. n ≢ stood.held.number) (IsNot path) leaves of_row h frame k l o (not_own h k ne) (λ counts e. not_own h k ne (stood.apart k l o counts alive opens e)) alive opens;
       uploads = λ hidden k broken some ne other.
-          (let away : k ≢ h = other_handle v is s.live path hidden h k bad broken pieces some stood other ne in
-          upload_left s.live t.live v w is (λ n. n ≢ stood.held.number) (IsNot path) leaves of_row h frame hidden k broken some ne other away (unseen_same v w other.held.number shown other.unseen)
-          (fresh_from s.live t.live v w is (λ n. n ≢ stood.held.number) (IsNot path) leaves of_row h frame path wrong all stands hidden k broken some other away));
+          (let away : k ≢ h = other_handle shown v is s.live path hidden h k bad broken pieces some stood other ne in
+          upload_left shown s.live t.live v w is (λ n. n ≢ stood.held.number) (IsNot path) leaves of_row h frame hidden k broken some ne other away (unseen_same v w other.held.number same other.unseen)
+          (fresh_from shown s.live t.live v w is (λ n. n ≢ stood.held.number) (IsNot path) leaves of_row h frame is_now path wrong all stands hidden k broken some ne ne other));
     }
       where
         of_row : (x : Names) (row : Row) → IsNot path x → row_at v.tree x ≡ Some row → row.number ≢ stood.held.number
         of_row x row ne at e = ne (one_path v is x path row stood.row at stood.at (e ∙ sym stood.number))
 
     -- Its file was closed, and taken or moved.
-    pub ended_left : Leaves IsOfAny (IsHiddenBut path) v w → t.live h ≡ None → ((n : ℕ) → n ≢ stood.held.number → IsUnseen v n → IsUnseen w n) → LeavesOthers (Some h) (IsNot path) s.live t.live v w
+    pub ended_left : Leaves IsOfAny (IsHiddenBut path) v w → t.live h ≡ None → ((n : ℕ) → n ≢ stood.held.number → IsUnseen v n → IsUnseen w n) → LeavesOthers shown (Some h) (IsNot path) s.live t.live v w
     ended_left leaves gone unseen = record {
       files = λ x row ne at holds. (leaves.bytes row.number tt holds).1;
-      bodies = λ k l o ne alive opens. body_left s.live t.live v w is IsOfAny (IsHiddenBut path) leaves of_row h frame k l o (not_own h k ne) tt alive opens;
+      bodies = λ k l o ne alive opens. body_left shown s.live t.live v w is IsOfAny (IsHiddenBut path) leaves of_row h frame k l o (not_own h k ne) (λ counts. tt) alive opens;
       uploads = λ hidden k broken some ne other.
-          upload_left s.live t.live v w is IsOfAny (IsHiddenBut path) leaves of_row h frame hidden k broken some (ne, other.hides) other
-          (other_handle v is s.live path hidden h k bad broken pieces some stood other ne)
-          (unseen other.held.number (other_number v is s.live path hidden h k bad broken pieces some stood other ne) other.unseen) (λ l o is_live opens e. none l is_live);
+          upload_left shown s.live t.live v w is IsOfAny (IsHiddenBut path) leaves of_row h frame hidden k broken some (ne, other.hides) other
+          (other_handle shown v is s.live path hidden h k bad broken pieces some stood other ne)
+          (unseen other.held.number (other_number shown v is s.live path hidden h k bad broken pieces some stood other ne) other.unseen) (λ l o counts is_live opens e. none l is_live);
     }
       where
         of_row : (x : Names) (row : Row) → IsHiddenBut path x → row_at v.tree x ≡ Some row → IsOfAny row.number

@@ -1,5 +1,5 @@
 -- What calls that write nothing leave to uploads.
-use Rattle.std.proofs.Common.{◌≡◌, ◌≢◌, ℕ, List, Bool, false, None, Some, sym, ap, ◌∙◌}
+use Rattle.std.proofs.Common.{◌≡◌, ◌≢◌, ℕ, List, Bool, true, false, None, Some, sym, ap, ◌∙◌}
 use Rattle.dav_core.specs.declared.tree.Row.{Row}
 use Rattle.dav_core.specs.Disk.{DiskState, Live}
 use Rattle.dav_core.specs.Path.{Names}
@@ -8,8 +8,7 @@ use Rattle.dav_core.specs.Unchanged.{Keeps, KeepsBut}
 use Rattle.dav_core.specs.World.{IsWorld, OpenFile, World}
 use Rattle.dav_core.specs.Writing.{reading}
 use Rattle.dav_walks.proofs.calls.KeptOpen.{but_kept, open_kept}
-use Rattle.dav_upload.specs.Names.{is_hidden_path}
-use Rattle.dav_upload.specs.Others.{IsAny, LeavesOthers}
+use Rattle.dav_upload.specs.Others.{IsAny, IsOfShown, LeavesOthers}
 use Rattle.dav_upload.specs.Shown.{SameShown}
 use Rattle.dav_upload.specs.Standing.{OthersOpen, StandsIn}
 use Rattle.dav_upload.proofs.Chains.{told_pair}
@@ -19,11 +18,11 @@ use Rattle.dav_upload.proofs.Making.{kept_unseen}
 use Rattle.dav_upload.proofs.Others.{IsOfAny, body_left, frame_but, not_own, quiet_left, upload_left}
 use Rattle.dav_io.proofs.Cases.{some_of}
 
-module _ (s t : DiskState) (v w : World) (was : s.told ≡ Some v) (now : t.told ≡ Some w) (is : IsWorld v) where
-  pub keeps_leave : Keeps s t → SameShown v w × LeavesOthers None IsAny s.live t.live v w
+module _ (counts : ℕ → Bool) (s t : DiskState) (v w : World) (was : s.told ≡ Some v) (now : t.told ≡ Some w) (is : IsWorld v) where
+  pub keeps_leave : Keeps s t → SameShown v w × LeavesOthers counts None IsAny s.live t.live v w
   keeps_leave keeps =
       let same = told_pair s.told t.told _ v w keeps.world was now in
-      (kept_unseen v w same, quiet_left IsAny s t v w was now is (open_kept s t keeps) same)
+      (kept_unseen v w same, quiet_left counts IsAny s t v w was now is (open_kept s t keeps) same)
 
   module _ (h : ℕ) (keeps : KeepsBut h s t) where
     shown : SameShown v w
@@ -38,22 +37,21 @@ module _ (s t : DiskState) (v w : World) (was : s.told ≡ Some v) (now : t.told
     of_row : (x : Names) (row : Row) → IsAny x → row_at v.tree x ≡ Some row → IsOfAny row.number
     of_row x row any at = tt
 
-    upload_there : (hidden : Names) (k : ℕ) (broken : Bool) (pieces : List ℕ) → (other : StandsIn s.live v hidden k broken pieces) → k ≢ h
-        → ((l : Live) (o : OpenFile) → t.live h ≡ Some l → w.opens h ≡ Some o → o.number ≢ other.held.number) → StandsIn t.live w hidden k broken pieces
+    upload_there : (hidden : Names) (k : ℕ) (broken : Bool) (pieces : List ℕ) → (other : StandsIn counts s.live v hidden k broken pieces) → k ≢ h
+        → ((l : Live) (o : OpenFile) → counts h ≡ true → t.live h ≡ Some l → w.opens h ≡ Some o → o.number ≢ other.held.number) → StandsIn counts t.live w hidden k broken pieces
     upload_there hidden k broken pieces other away fresh =
-        upload_left s.live t.live v w is IsOfAny IsAny leaves of_row h frame hidden k broken pieces tt other away (unseen_same v w other.held.number shown other.unseen) fresh
+        upload_left counts s.live t.live v w is IsOfAny IsAny leaves of_row h frame hidden k broken pieces tt other away (unseen_same v w other.held.number shown other.unseen) fresh
 
-    -- A file that is shown was opened.
-    pub opened_leaves : s.live h ≡ None → (path : Names) (row : Row) → row_at v.tree path ≡ Some row → is_hidden_path path ≡ false → ((o : OpenFile) → w.opens h ≡ Some o → o.number ≡ row.number)
-        → SameShown v w × LeavesOthers None IsAny s.live t.live v w
-    opened_leaves none path row at shows number = (
+    -- A file was opened, which is one that is shown where its handle counts.
+    pub opened_leaves : s.live h ≡ None → (counts h ≡ true → IsOfShown v w h) → SameShown v w × LeavesOthers counts None IsAny s.live t.live v w
+    opened_leaves none of_shown = (
       shown,
       record {
         files = λ x r any there holds. (leaves.bytes r.number tt holds).1;
-        bodies = λ k l o ne alive opens. body_left s.live t.live v w is IsOfAny IsAny leaves of_row h frame k l o (dead k l alive) tt alive opens;
+        bodies = λ k l o ne alive opens. body_left counts s.live t.live v w is IsOfAny IsAny leaves of_row h frame k l o (dead k l alive) (λ is_counted. tt) alive opens;
         uploads = λ hidden k broken pieces any other.
             upload_there hidden k broken pieces other (λ e. (let (l, alive) = some_of (s.live k) other.lives in dead k l alive e))
-            (λ l o is_live opens e. other.unseen path row at shows (sym (number o opens) ∙ e));
+            (λ l o is_counted is_live opens e. (let (path, row, at, shows, number) = of_shown is_counted in other.unseen path row at shows (sym (number o opens) ∙ e)));
       },
     )
       where
@@ -62,17 +60,17 @@ module _ (s t : DiskState) (v w : World) (was : s.told ≡ Some v) (now : t.told
 
     -- A file that was opened for reading was moved, read or closed.
     pub read_leaves : (l : Live) → s.live h ≡ Some l → l.how ≡ reading
-        → ((m : Live) (o : OpenFile) → t.live h ≡ Some m → w.opens h ≡ Some o → (p : OpenFile) × (v.opens h ≡ Some p) × (p.number ≡ o.number)) → SameShown v w × LeavesOthers (Some h) IsAny s.live t.live v w
+        → ((m : Live) (o : OpenFile) → t.live h ≡ Some m → w.opens h ≡ Some o → (p : OpenFile) × (v.opens h ≡ Some p) × (p.number ≡ o.number)) → SameShown v w × LeavesOthers counts (Some h) IsAny s.live t.live v w
     read_leaves l live how same = (
       shown,
       record {
         files = λ x r any there holds. (leaves.bytes r.number tt holds).1;
-        bodies = λ k m o ne alive opens. body_left s.live t.live v w is IsOfAny IsAny leaves of_row h frame k m o (not_own h k ne) tt alive opens;
+        bodies = λ k m o ne alive opens. body_left counts s.live t.live v w is IsOfAny IsAny leaves of_row h frame k m o (not_own h k ne) (λ is_counted. tt) alive opens;
         uploads = λ hidden k broken pieces any other.
             (let away : k ≢ h = λ e. (let of = other.how l (ap s.live e ∙ live) in
             let reads : reading.read ≡ false = ap (λ o. o.read) (sym how ∙ of) in
             cc) in
             upload_there hidden k broken pieces other away
-            (λ m o is_live opens e. (let (p, there, number) = same m o is_live opens in away (sym (other.apart h l p live there (number ∙ e))))));
+            (λ m o is_counted is_live opens e. (let (p, there, number) = same m o is_live opens in away (sym (other.apart h l p is_counted live there (number ∙ e))))));
       },
     )

@@ -19,23 +19,24 @@ use Rattle.dav_upload.proofs.Making.{filled_unseen}
 use Rattle.dav_upload.proofs.Moving.{numbered}
 use Rattle.dav_io.proofs.Cases.{some_of}
 
-module _ (own : ℕ) (live then : ℕ → Option Live) (v w : World) (others : OthersOpen own live then v w) where
-  -- no other handle than `h` has the number, where `own` hasn't
-  apart_still : (h n : ℕ) → ((k : ℕ) (l : Live) (o : OpenFile) → live k ≡ Some l → v.opens k ≡ Some o → o.number ≡ n → k ≡ h) → ((l : Live) (o : OpenFile) → then own ≡ Some l → w.opens own ≡ Some o → o.number ≡ n → own ≡ h)
-      → (k : ℕ) (l : Live) (o : OpenFile) → then k ≡ Some l → w.opens k ≡ Some o → o.number ≡ n → k ≡ h
-  apart_still h n apart fresh k l o is opens e = by (k == own) refl
+module _ (shown : ℕ → Bool) (own : ℕ) (live then : ℕ → Option Live) (v w : World) (others : OthersOpen own live then v w) where
+  -- no other handle than `h` that counts has the number, where `own` hasn't
+  apart_still : (h n : ℕ) → ((k : ℕ) (l : Live) (o : OpenFile) → shown k ≡ true → live k ≡ Some l → v.opens k ≡ Some o → o.number ≡ n → k ≡ h)
+      → ((l : Live) (o : OpenFile) → shown own ≡ true → then own ≡ Some l → w.opens own ≡ Some o → o.number ≡ n → own ≡ h)
+      → (k : ℕ) (l : Live) (o : OpenFile) → shown k ≡ true → then k ≡ Some l → w.opens k ≡ Some o → o.number ≡ n → k ≡ h
+  apart_still h n apart fresh k l o counts is opens e = by (k == own) refl
     where
       by : (b : Bool) → (k == own) ≡ b → k ≡ h
-      by true f = let same = equal_keys k own f in same ∙ fresh l o (ap then (sym same) ∙ is) (ap w.opens (sym same) ∙ opens) e
+      by true f = let same = equal_keys k own f in same ∙ fresh l o (ap shown (sym same) ∙ counts) (ap then (sym same) ∙ is) (ap w.opens (sym same) ∙ opens) e
       by false f =
           let ne = other_keys k own f in
           let was : live k ≡ Some l = sym (others.lives k ne) ∙ is in
-          apart k l o was (sym (others.opens k l ne was) ∙ opens) e
+          apart k l o counts was (sym (others.opens k l ne was) ∙ opens) e
 
   -- An upload with another handle goes on standing.
-  pub other_stands : (hidden : Names) (h : ℕ) (broken : Bool) (pieces : List ℕ) (s : StandsIn live v hidden h broken pieces) → h ≢ own → KeepsRow v w hidden
+  pub other_stands : (hidden : Names) (h : ℕ) (broken : Bool) (pieces : List ℕ) (s : StandsIn shown live v hidden h broken pieces) → h ≢ own → KeepsRow v w hidden
       → (IsUnseen v s.held.number → IsUnseen w s.held.number) → (Holds w s.held.number → bytes_of w s.held.number ≡ bytes_of v s.held.number)
-      → ((l : Live) (o : OpenFile) → then own ≡ Some l → w.opens own ≡ Some o → o.number ≢ s.held.number) → StandsIn then w hidden h broken pieces
+      → ((l : Live) (o : OpenFile) → shown own ≡ true → then own ≡ Some l → w.opens own ≡ Some o → o.number ≢ s.held.number) → StandsIn shown then w hidden h broken pieces
   other_stands hidden h broken pieces s ne kept unseen bytes fresh =
       let (row, at, kind, number) = kept s.row s.at in
       let (l, alive) = some_of (live h) s.lives in
@@ -53,14 +54,14 @@ module _ (own : ℕ) (live then : ℕ → Option Live) (v w : World) (others : O
         number = there;
         hides = s.hides;
         unseen = unseen s.unseen;
-        apart = apart_still h s.held.number s.apart (λ l o is opens e. absurd (fresh l o is opens e));
+        apart = apart_still h s.held.number s.apart (λ l o counts is opens e. absurd (fresh l o counts is opens e));
         whole = λ e. (bytes holds ∙ (s.whole e).0, (s.whole e).1);
       }
 
   -- ---- the upload that begins
 
   pub made_stands : (hidden : Names) (h : ℕ) (row : Row) → IsWorld v → is_hidden_path hidden ≡ true → row_at v.tree hidden ≡ None → Edited (makes hidden File []) v w → SameShown v w
-      → row_at w.tree hidden ≡ Some row → own ≡ h → IsSome (then h) → ((l : Live) → then h ≡ Some l → l.how ≡ upload_options) → ((l : Live) → then h ≡ Some l → l.kind ≡ row.kind) → w.opens h ≡ Some (at_start row.number) → StandsIn then w hidden h false []
+      → row_at w.tree hidden ≡ Some row → own ≡ h → IsSome (then h) → ((l : Live) → then h ≡ Some l → l.how ≡ upload_options) → ((l : Live) → then h ≡ Some l → l.kind ≡ row.kind) → w.opens h ≡ Some (at_start row.number) → StandsIn shown then w hidden h false []
   made_stands hidden h row is hides none edited same at owned alive how of opens =
       let made : IsMadeIn v w hidden = made_in v w hidden none edited in
       let one : Some made.row ≡ Some row = sym made.at ∙ at in
@@ -80,17 +81,17 @@ module _ (own : ℕ) (live then : ℕ → Option Live) (v w : World) (others : O
         hides = hides;
         unseen = unseen_same v w row.number same (unseen_new v row.number (below_greatest v is) above);
         apart = apart_still h row.number
-            (λ k l o is_live was e. absurd (let le = is.given.opens k o was in omega (arith, le, above, e)))
-            (λ l o is_live now e. owned);
+            (λ k l o counts is_live was e. absurd (let le = is.given.opens k o was in omega (arith, le, above, e)))
+            (λ l o counts is_live now e. owned);
         whole = λ e. (sym (ap (bytes_of w) refl) ∙ (subst (λ n. bytes_of w n ≡ []) number (made.empty (subst (Holds w) (sym number) holds))), refl);
       }
 
   -- ---- the upload whose file is written
 
   -- what its file holds now, by what its handle has open
-  pub written_stands : (hidden : Names) (h : ℕ) (broken wrong : Bool) (pieces all : List ℕ) (s : StandsIn live v hidden h broken pieces) (now : OpenFile) (bytes : List ℕ) → own ≡ h
+  pub written_stands : (hidden : Names) (h : ℕ) (broken wrong : Bool) (pieces all : List ℕ) (s : StandsIn shown live v hidden h broken pieces) (now : OpenFile) (bytes : List ℕ) → own ≡ h
       → Edited (fills s.held.number bytes) v w → then h ≡ live h → w.opens h ≡ Some now → now.number ≡ s.held.number → (wrong ≡ false → (bytes ≡ all) × (now.place ≡ length all))
-      → StandsIn then w hidden h wrong all
+      → StandsIn shown then w hidden h wrong all
   written_stands hidden h broken wrong pieces all s now bytes owned edited alive opens number whole =
       let (row, at, kind, numbers) = kept_filled v w s.held.number bytes hidden edited s.row s.at in
       let there : row.number ≡ now.number = numbers ∙ (s.number ∙ sym number) in
@@ -106,7 +107,7 @@ module _ (own : ℕ) (live then : ℕ → Option Live) (v w : World) (others : O
         number = there;
         hides = s.hides;
         unseen = subst (IsUnseen w) (sym number) (unseen_same v w s.held.number (filled_unseen v w s.held.number bytes s.unseen edited) s.unseen);
-        apart = λ k l o is_live was e. apart_still h s.held.number s.apart (λ l o is_live was e. owned) k l o is_live was (e ∙ number);
+        apart = λ k l o counts is_live was e. apart_still h s.held.number s.apart (λ l o counts is_live was e. owned) k l o counts is_live was (e ∙ number);
         whole = λ e. (ap (bytes_of w) number ∙ (filled_bytes s.held.number bytes v w edited holds ∙ (whole e).0), (whole e).1);
       }
     where
@@ -114,3 +115,22 @@ module _ (own : ℕ) (live then : ℕ → Option Live) (v w : World) (others : O
       filled_bytes n bytes v w (inl (is, same)) holds = same_keep v w n same holds ∙ sym is
       filled_bytes n bytes v w (inr (other, t, new, becomes)) holds =
           ap (λ o. elim o as (λ x. List ℕ) [ None ↦ [] | Some stored ↦ stored.bytes ]) ((becomes.files n holds).1 ∙ put_same n (Some (record { bytes = bytes; time = t })) v.files)
+
+-- What stands where some handles count stands where others do, as long as each live one of those counted.
+pub stands_counted : (shown counts : ℕ → Bool) (live : ℕ → Option Live) (w : World) (hidden : Names) (h : ℕ) (broken : Bool) (pieces : List ℕ) → ((k : ℕ) (l : Live) → counts k ≡ true → live k ≡ Some l → shown k ≡ true)
+    → StandsIn shown live w hidden h broken pieces → StandsIn counts live w hidden h broken pieces
+stands_counted shown counts live w hidden h broken pieces fewer s = record {
+  lives = s.lives;
+  how = s.how;
+  file = s.file;
+  held = s.held;
+  opens = s.opens;
+  row = s.row;
+  at = s.at;
+  kind = s.kind;
+  number = s.number;
+  hides = s.hides;
+  unseen = s.unseen;
+  apart = λ k l o is alive opens. s.apart k l o (fewer k l is alive) alive opens;
+  whole = s.whole;
+}

@@ -57,12 +57,12 @@ module _ {S C F : Type 0} (view : View S C F) (writes : Writes F) (c : C) (test 
 
   -- ---- begin
 
-  module _ (s t : S) (v w : World) (was : (view.state s).told ≡ Some v) (now : (view.state t).told ≡ Some w) (target : WebPath) (token : ℕ) (p : plain s) (clear : is_linked v.tree (hidden_beside target token).names ≡ false) where
+  module _ (shown : ℕ → Bool) (s t : S) (v w : World) (was : (view.state s).told ≡ Some v) (now : (view.state t).told ≡ Some w) (target : WebPath) (token : ℕ) (p : plain s) (clear : is_linked v.tree (hidden_beside target token).names ≡ false) where
     abbrev pub Left : Type 0
-    Left = LeavesOthers None (IsNot (hidden_beside target token).names) (view.state s).live (view.state t).live v w
+    Left = LeavesOthers shown None (IsNot (hidden_beside target token).names) (view.state s).live (view.state t).live v w
 
     quiet : KeepsOpen (view.state s) (view.state t) → SameBesidesOpens v w → Left
-    quiet = quiet_left (IsNot (hidden_beside target token).names) (view.state s) (view.state t) v w was now (takes_all.worlds s v was)
+    quiet = quiet_left shown (IsNot (hidden_beside target token).names) (view.state s) (view.state t) v w was now (takes_all.worlds s v was)
 
     module _ (m : S) (u : World) (keeps : Keeps (view.state s) (view.state m)) (here : (view.state m).told ≡ Some u) (same : SameBesidesOpens v u) (q : plain m) where
       abbrev path : Names
@@ -79,11 +79,11 @@ module _ {S C F : Type 0} (view : View S C F) (writes : Writes F) (c : C) (test 
           let (edit, row, allowed, edited, at, open_at, of_kind) = told_pair (view.state m).told (view.state t).told _ u w (takes_all.opens m t (hidden_beside target token) (Ok f) q opens).1 here now free in
           let (none, made) = new_at u.tree path edit allowed in
           let did : Edited (makes path File []) u w = subst (λ e. EditedBy e u w) made edited in
-          let (shown, links, stands) = opened_began view writes c test takes_all s t v w was now target token u m (Ok f) (Ok (upload_begun target token f)) here same free q opens one refl in
+          let (same_shown, links, stands) = opened_began view writes c test takes_all shown s t v w was now target token u m (Ok f) (Ok (upload_begun target token f)) here same free q opens one refl in
           let later : Leaves (λ n. n ≤ v.greatest) (IsNot path) u w = subst (λ g. Leaves (λ n. n ≤ g) (IsNot path) u w) same.greatest (leaves_made (IsNot path) u w path (λ x ne e. ne e) did) in
-          new_left (view.state s) (view.state t) v w was now (takes_all.worlds s v was) path (view.file.handle f)
+          new_left shown (view.state s) (view.state t) v w was now (takes_all.worlds s v was) path (view.file.handle f)
           (but_then (view.file.handle f) (view.state s) (view.state m) (view.state t) (but_open (view.file.handle f) (view.state s) (view.state m) (open_kept (view.state s) (view.state m) keeps)) one.others)
-          (leaves_then (λ n. n ≤ v.greatest) (IsNot path) v u w (leaves_same (λ n. n ≤ v.greatest) (IsNot path) v u same) later) (sym (keeps.live (view.file.handle f)) ∙ one.fresh) shown stands
+          (leaves_then (λ n. n ≤ v.greatest) (IsNot path) v u w (leaves_same (λ n. n ≤ v.greatest) (IsNot path) v u same) later) (sym (keeps.live (view.file.handle f)) ∙ one.fresh) same_shown (takes_all.worlds t w now) stands
 
     judged_left : (fields : Fields) (r : Result (Upload F) UploadError) → Judges view c target fields token s r t → Left
     judged_left fields r j = by j.may j.opens
@@ -107,40 +107,40 @@ module _ {S C F : Type 0} (view : View S C F) (writes : Writes F) (c : C) (test 
 
   -- ---- a piece
 
-  pub piece_left : (u x : Upload F) (s t : S) (v w : World) (bytes pieces : List ℕ) (r : Result Unit UploadError) → (view.state s).told ≡ Some v → (view.state t).told ≡ Some w
-      → StandsIn (view.state s).live v u.hidden.names (view.file.handle u.file) u.broken pieces → WritesPiece view writes u bytes s r t x
-      → LeavesOthers (Some (view.file.handle u.file)) (IsNot u.hidden.names) (view.state s).live (view.state t).live v w
-  piece_left u x s t v w bytes pieces r was now stands piece_so = by u.broken refl piece_so
+  pub piece_left : (shown : ℕ → Bool) (u x : Upload F) (s t : S) (v w : World) (bytes pieces : List ℕ) (r : Result Unit UploadError) → (view.state s).told ≡ Some v → (view.state t).told ≡ Some w
+      → StandsIn shown (view.state s).live v u.hidden.names (view.file.handle u.file) u.broken pieces → WritesPiece view writes u bytes s r t x
+      → LeavesOthers shown (Some (view.file.handle u.file)) (IsNot u.hidden.names) (view.state s).live (view.state t).live v w
+  piece_left shown u x s t v w bytes pieces r was now stands piece_so = by u.broken refl piece_so
     where
       world : IsWorld v
       world = takes_all.worlds s v was
 
-      after : Pieced view.file.handle (view.state t).live x pieces bytes v w
-      after = pieced view writes c test takes_all u x s t v w bytes pieces r was now stands piece_so
+      after : Pieced shown view.file.handle (view.state t).live x pieces bytes v w
+      after = pieced view writes c test takes_all shown u x s t v w bytes pieces r was now stands piece_so
 
       filled : (y : Result Unit FsError) → WritesAt (view.file.handle u.file) bytes y stands.held v w → Leaves (λ n. n ≢ stands.held.number) (IsNot u.hidden.names) v w
       filled (Ok z) (edited, opens) = leaves_filled (IsNot u.hidden.names) v w stands.held.number _ edited
       filled (Err e) (n, open_now, edited, opens, number) = leaves_filled (IsNot u.hidden.names) v w stands.held.number _ edited
 
-      by : (b : Bool) → u.broken ≡ b → PieceOn view writes b u bytes s r t x → LeavesOthers (Some (view.file.handle u.file)) (IsNot u.hidden.names) (view.state s).live (view.state t).live v w
+      by : (b : Bool) → u.broken ≡ b → PieceOn view writes b u bytes s r t x → LeavesOthers shown (Some (view.file.handle u.file)) (IsNot u.hidden.names) (view.state s).live (view.state t).live v w
       by true e (same, is, refused) =
-          left_but (view.file.handle u.file) (IsNot u.hidden.names) (view.state s).live (view.state t).live v w
-          (quiet_left (IsNot u.hidden.names) (view.state s) (view.state t) v w was now world (still_open s t same) (still_world s t v w same was now))
+          left_but shown (view.file.handle u.file) (IsNot u.hidden.names) (view.state s).live (view.state t).live v w
+          (quiet_left shown (IsNot u.hidden.names) (view.state s) (view.state t) v w was now world (still_open s t same) (still_world s t v w same was now))
       by false e (y, file, writes_so, is, answer) =
           let within : stands.held.place ≤ length (bytes_of v stands.held.number) = (let (a, b) = stands.whole e in let long = ap length a in omega (arith, long, b)) in
           let did = told_pair (view.state s).told (view.state t).told _ v w
           (takes_all.writes_file s t u.file file bytes y writes_so (never_appends view writes c test takes_all ((view.state s).live (view.file.handle u.file)) stands.how)) was now stands.held stands.opens within in
           let own : view.file.handle x.file ≡ view.file.handle u.file = ap (λ (z : Upload F). view.file.handle z.file) is ∙ writes_so.handle in
           let hidden : x.hidden.names ≡ u.hidden.names = ap (λ (z : Upload F). z.hidden.names) is in
-          let now_stands : StandsIn (view.state t).live w u.hidden.names (view.file.handle u.file) x.broken (pieces ++ bytes) =
-          subst (λ k. StandsIn (view.state t).live w u.hidden.names k x.broken (pieces ++ bytes)) own
-          (subst (λ p. StandsIn (view.state t).live w p (view.file.handle x.file) x.broken (pieces ++ bytes)) hidden after.2) in
-          written_left (view.state s) (view.state t) v w was now world u.hidden.names (view.file.handle u.file) writes_so.told.keeps u.broken pieces stands x.broken (pieces ++ bytes) (filled y did) after.0 now_stands
+          let now_stands : StandsIn shown (view.state t).live w u.hidden.names (view.file.handle u.file) x.broken (pieces ++ bytes) =
+          subst (λ k. StandsIn shown (view.state t).live w u.hidden.names k x.broken (pieces ++ bytes)) own
+          (subst (λ p. StandsIn shown (view.state t).live w p (view.file.handle x.file) x.broken (pieces ++ bytes)) hidden after.2) in
+          written_left shown (view.state s) (view.state t) v w was now world u.hidden.names (view.file.handle u.file) writes_so.told.keeps u.broken pieces stands x.broken (pieces ++ bytes) (filled y did) after.0 (takes_all.worlds t w now) now_stands
 
   -- ---- the end of an upload
 
-  module _ (u : Upload F) (s t : S) (v w : World) (pieces : List ℕ) (was : (view.state s).told ≡ Some v) (now : (view.state t).told ≡ Some w)
-      (stands : StandsIn (view.state s).live v u.hidden.names (view.file.handle u.file) u.broken pieces) (p : plain s) where
+  module _ (shown : ℕ → Bool) (u : Upload F) (s t : S) (v w : World) (pieces : List ℕ) (was : (view.state s).told ≡ Some v) (now : (view.state t).told ≡ Some w)
+      (stands : StandsIn shown (view.state s).live v u.hidden.names (view.file.handle u.file) u.broken pieces) (p : plain s) where
     abbrev pub h : ℕ
     h = view.file.handle u.file
 
@@ -148,7 +148,7 @@ module _ {S C F : Type 0} (view : View S C F) (writes : Writes F) (c : C) (test 
     hidden = u.hidden.names
 
     abbrev pub LeftEnded : Type 0
-    LeftEnded = LeavesOthers (Some h) (IsNot hidden) (view.state s).live (view.state t).live v w
+    LeftEnded = LeavesOthers shown (Some h) (IsNot hidden) (view.state s).live (view.state t).live v w
 
     -- What the end made of the world: the hidden file was taken or left, or moved.
     data Did : Type 0 where
@@ -166,7 +166,7 @@ module _ {S C F : Type 0} (view : View S C F) (writes : Writes F) (c : C) (test 
             unseen_at x y n path ((moved_commits x y hidden u.target.names stands.row beside edited).others path (λ g. never (same_names path u.target.names) (names_equal path u.target.names g) e)) unseen r at shows f
 
     did_left : KeepsOpenBut h (view.state s) (view.state t) → (view.state t).live h ≡ None → Did → LeftEnded
-    did_left keeps gone did = ended_left (view.state s) (view.state t) v w was now (takes_all.worlds s v was) hidden h keeps u.broken pieces stands (leaves did) gone (unseen did)
+    did_left keeps gone did = ended_left shown (view.state s) (view.state t) v w was now (takes_all.worlds s v was) hidden h keeps u.broken pieces stands (leaves did) gone (unseen did)
       where
         leaves : Did → Leaves IsOfAny (IsHiddenBut hidden) v w
         leaves (stayed x same took) = leaves_then IsOfAny (IsHiddenBut hidden) v x w (leaves_same IsOfAny (IsHiddenBut hidden) v x same) (elim took [

@@ -148,14 +148,14 @@ module _ {S C F : Type 0} (view : View S C F) (writes : Writes F) (c : C) (test 
         let (leaves, open_on) = each_leave other paths 0 m t r x w here now (leads s m plain chooses.leads) takes (rw is (left_clear x dir limit members still)) (rw is (off members m listed)) in
         (leaves_then IsOfAny other v x w (leaves_same IsOfAny other v x kept) leaves, open_after (view.state s) (view.state m) (view.state t) chooses.keeps open_on)
 
-    pub before_left : (dir : WebPath) (limit : FileTime) (other : Names → Type 0) (s t : S) (v w : World) (r : Result ℕ UploadError) → (view.state s).told ≡ Some v → (view.state t).told ≡ Some w → test s ≡ true
+    pub before_left : (shown : ℕ → Bool) (dir : WebPath) (limit : FileTime) (other : Names → Type 0) (s t : S) (v w : World) (r : Result ℕ UploadError) → (view.state s).told ≡ Some v → (view.state t).told ≡ Some w → test s ≡ true
         → HasClearNames v dir.names → ((members : List Member) (m : S) → WasListed view lists s c dir members m → AreOff other (left_before limit dir members)) → SweepsBefore view lists c dir limit s r t
-        → LeavesOthers None other (view.state s).live (view.state t).live v w
-    before_left dir limit other s t v w r was now plain clear off sweeps =
+        → LeavesOthers shown None other (view.state s).live (view.state t).live v w
+    before_left shown dir limit other s t v w r was now plain clear off sweeps =
         let (leaves, keeps) = before_leaves dir limit other s t v w r was now plain clear off sweeps in
-        all_left (view.state s).live (view.state t).live v w (takes_all.worlds s v was) IsOfAny other leaves (λ path row is_other at. tt) (frame_open (view.state s) (view.state t) v w was now keeps)
+        all_left shown (view.state s).live (view.state t).live v w (takes_all.worlds s v was) IsOfAny other leaves (λ path row is_other at. tt) (frame_open (view.state s) (view.state t) v w was now keeps)
         (before_unseen dir limit s t v w r was now plain clear sweeps) (λ k l o alive opens. tt)
 
-    pub before_left_hidden : (dir : WebPath) (limit : FileTime) (s t : S) (v w : World) (r : Result ℕ UploadError) → (view.state s).told ≡ Some v → (view.state t).told ≡ Some w → test s ≡ true → HasClearNames v dir.names
-        → SweepsBefore view lists c dir limit s r t → LeavesOthers None (IsNotHiddenIn dir.names) (view.state s).live (view.state t).live v w
-    before_left_hidden dir limit s t v w r was now plain clear sweeps = before_left dir limit (IsNotHiddenIn dir.names) s t v w r was now plain clear (λ members m listed. left_off dir limit members) sweeps
+    pub before_left_hidden : (shown : ℕ → Bool) (dir : WebPath) (limit : FileTime) (s t : S) (v w : World) (r : Result ℕ UploadError) → (view.state s).told ≡ Some v → (view.state t).told ≡ Some w → test s ≡ true → HasClearNames v dir.names
+        → SweepsBefore view lists c dir limit s r t → LeavesOthers shown None (IsNotHiddenIn dir.names) (view.state s).live (view.state t).live v w
+    before_left_hidden shown dir limit s t v w r was now plain clear sweeps = before_left shown dir limit (IsNotHiddenIn dir.names) s t v w r was now plain clear (λ members m listed. left_off dir limit members) sweeps

@@ -70,9 +70,9 @@ module _ {S C F : Type 0} (view : View S C F) (writes : Writes F) (c : C) (test 
         let (leaves, open_on) = paths_leave dir.names (hidden_files dir members) 0 m t r x w here now (reads s m dir members plain has) removals (files_clear x dir members still) (files_in dir members) in
         (leaves_then IsOfAny (IsNotHiddenIn dir.names) v x w (leaves_same IsOfAny (IsNotHiddenIn dir.names) v x same) leaves, open_after (view.state s) (view.state m) (view.state t) keeps open_on)
 
-    pub sweep_left : (dir : WebPath) (s t : S) (v w : World) (r : Result ℕ UploadError) → (view.state s).told ≡ Some v → (view.state t).told ≡ Some w → test s ≡ true → HasClearNames v dir.names
-        → Sweeps view lists c dir s r t → LeavesOthers None (IsNotHiddenIn dir.names) (view.state s).live (view.state t).live v w
-    sweep_left dir s t v w r was now plain clear sweeps =
+    pub sweep_left : (shown : ℕ → Bool) (dir : WebPath) (s t : S) (v w : World) (r : Result ℕ UploadError) → (view.state s).told ≡ Some v → (view.state t).told ≡ Some w → test s ≡ true → HasClearNames v dir.names
+        → Sweeps view lists c dir s r t → LeavesOthers shown None (IsNotHiddenIn dir.names) (view.state s).live (view.state t).live v w
+    sweep_left shown dir s t v w r was now plain clear sweeps =
         let (leaves, keeps) = sweep_leaves dir s t v w r was now plain clear sweeps in
-        all_left (view.state s).live (view.state t).live v w (takes_all.worlds s v was) IsOfAny (IsNotHiddenIn dir.names) leaves (λ path row off at. tt) (frame_open (view.state s) (view.state t) v w was now keeps)
+        all_left shown (view.state s).live (view.state t).live v w (takes_all.worlds s v was) IsOfAny (IsNotHiddenIn dir.names) leaves (λ path row off at. tt) (frame_open (view.state s) (view.state t) v w was now keeps)
         (swept view writes c test takes_all lists reads dir s t v w r was now plain clear sweeps) (λ k l o alive opens. tt)

@@ -10,10 +10,12 @@ use Rattle.dav_upload.specs.Names.{is_hidden_path}
 use Rattle.dav_upload.specs.Pieces.{upload_options}
 use Rattle.dav_upload.specs.Shown.{IsUnseen}
 
--- At the hidden path stands a file, which the handle has open and no other live one. No row that is shown is that file.
--- Where the upload isn't broken, the file has the pieces in order, and the place is behind them.
-pub record StandsIn (live : ℕ → Option Live) (w : World) (hidden : Names) (h : ℕ) (broken : Bool) (pieces : List ℕ)
-    : Type 0 where
+-- `shown` tells which handles count as those of bodies of files that are shown. At the hidden path stands a file, which
+-- the upload's handle has open, and no other live one that counts: so a reader of the hidden path, which counts for
+-- nothing, may have it open too. No row that is shown is that file. Where the upload isn't broken, the file has the
+-- pieces in order, and the place is behind them.
+pub record StandsIn (shown : ℕ → Bool) (live : ℕ → Option Live) (w : World) (hidden : Names) (h : ℕ) (broken : Bool)
+    (pieces : List ℕ) : Type 0 where
   pub lives : IsSome (live h)
   pub how : (l : Live) → live h ≡ Some l → l.how ≡ upload_options
   pub file : (l : Live) → live h ≡ Some l → l.kind ≡ File
@@ -25,7 +27,8 @@ pub record StandsIn (live : ℕ → Option Live) (w : World) (hidden : Names) (h
   pub number : row.number ≡ held.number
   pub hides : is_hidden_path hidden ≡ true
   pub unseen : IsUnseen w held.number
-  pub apart : (k : ℕ) (l : Live) (o : OpenFile) → live k ≡ Some l → w.opens k ≡ Some o → o.number ≡ held.number → k ≡ h
+  pub apart : (k : ℕ) (l : Live) (o : OpenFile) → shown k ≡ true → live k ≡ Some l → w.opens k ≡ Some o
+      → o.number ≡ held.number → k ≡ h
   pub whole : broken ≡ false → (bytes_of w held.number ≡ pieces) × (held.place ≡ length pieces)
 
 -- Each other handle is live as it was, and has open what it had.

@@ -34,10 +34,11 @@ abbrev pub HasClearNames : World → Names → Type 0
 HasClearNames w dir = (name : List ℕ) → is_hidden name ≡ true → is_linked w.tree (dir ++ name ∷ []) ≡ false
 
 -- What is shown stays where an upload begins. At Ok it stands, with no piece yet.
-abbrev pub Began : {F : Type 0} → (F → ℕ) → (ℕ → Option Live) → Result (Upload F) UploadError → World → World → Type 0
-Began handle live (Ok u) v w = SameShown v w × SameLinks v w
-    × StandsIn live w u.hidden.names (handle u.file) u.broken []
-Began handle live (Err e) v w = SameShown v w
+abbrev pub Began : {F : Type 0} → (ℕ → Bool) → (F → ℕ) → (ℕ → Option Live) → Result (Upload F) UploadError → World
+    → World → Type 0
+Began shown handle live (Ok u) v w = SameShown v w × SameLinks v w
+    × StandsIn shown live w u.hidden.names (handle u.file) u.broken []
+Began shown handle live (Err e) v w = SameShown v w
 
 -- The store met a fault, or memory was wanting.
 abbrev pub is_fault : UploadError → Bool
@@ -53,6 +54,7 @@ Committed target true pieces (Err e) v w = SameShown v w
 Committed target false pieces (Err e) v w = SameShown v w ⊎ ((is_fault e ≡ true) × IsCommitted v target pieces w)
 
 -- A piece leaves what is shown, and its upload stands: with the piece behind the others, or broken.
-abbrev pub Pieced : {F : Type 0} → (F → ℕ) → (ℕ → Option Live) → Upload F → List ℕ → List ℕ → World → World → Type 0
-Pieced handle live u pieces bytes v w = SameShown v w × SameLinks v w
-    × StandsIn live w u.hidden.names (handle u.file) u.broken (pieces ++ bytes)
+abbrev pub Pieced : {F : Type 0} → (ℕ → Bool) → (F → ℕ) → (ℕ → Option Live) → Upload F → List ℕ → List ℕ → World → World
+    → Type 0
+Pieced shown handle live u pieces bytes v w = SameShown v w × SameLinks v w
+    × StandsIn shown live w u.hidden.names (handle u.file) u.broken (pieces ++ bytes)

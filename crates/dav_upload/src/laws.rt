@@ -11,7 +11,7 @@ ghost use Rattle.dav_core.specs.Unchanged.{Keeps, KeepsBut};
 ghost use Rattle.dav_core.specs.Tree.{row_at};
 ghost use Rattle.dav_upload.specs.EachStep.{AreWhole, LeaveNoName, LeaveOthers, SweepsAreUnseen, SweepsBeforeAreUnseen, SweepsBeforeLeaveOthers, SweepsLeaveOthers};
 ghost use Rattle.dav_upload.specs.Kept.{KeepsRow};
-ghost use Rattle.dav_upload.specs.Others.{IsAny, LeavesOthers};
+ghost use Rattle.dav_upload.specs.Others.{IsAny, IsOfShown, LeavesOthers};
 ghost use Rattle.dav_upload.specs.Standing.{OthersOpen, StandsIn};
 ghost use Rattle.dav_upload.specs.Takes.{LeadsPlainly, ReadsPlainly, TakesUploads};
 ghost use Rattle.dav_store.specs.Files.{WritesIn};
@@ -68,24 +68,26 @@ pub fn pieces_stand_behind()
 /// Over a store whose calls do what the tree allows at paths as they are written, where no link stands on the way to the
 /// two paths of an upload: a beginning, a piece, an abort and a sweep leave what is shown, and a commit leaves it or
 /// makes its target a file of all pieces. At Ok an upload that begins stands, and a commit was made; a piece keeps its
-/// upload standing. Beginnings and pieces leave on which paths links stand.
+/// upload standing. Beginnings and pieces leave on which paths links stand. That holds whichever handles count as those
+/// of bodies of files that are shown.
 pub fn uploads_are_whole<S: GuardedFileSystem<C>, C>(_fs: &S, _credentials: &C)
     ensures steps { (test : S → Bool) → TakesUploads S.view S.File.view.writes _credentials.now test
-        → AreWhole S.view S.File.view.writes _credentials.now test }
+        → (shown : ℕ → Bool) → AreWhole S.view S.File.view.writes _credentials.now test shown }
     ensures sweeps { (test : S → Bool) → TakesUploads S.view S.File.view.writes _credentials.now test
         → ReadsPlainly S.view S.listings _credentials.now test
         → SweepsAreUnseen S.view S.listings _credentials.now test }
 {}
 
 /// Over such a store each step of an upload leaves to others what they have: the bytes of each file but its own stay as
-/// long as somebody holds it, what another handle has open stays open with its bytes, and each upload with another
-/// hidden path goes on standing. A sweep leaves so what stands at all but the hidden names of its directory.
+/// long as somebody holds it, what another handle has open stays open, with its bytes where it counts as that of a body
+/// of a file that is shown, and each upload with another hidden path goes on standing. A sweep leaves so what stands at
+/// all but the hidden names of its directory.
 pub fn uploads_leave_others<S: GuardedFileSystem<C>, C>(_fs: &S, _credentials: &C)
     ensures steps { (test : S → Bool) → TakesUploads S.view S.File.view.writes _credentials.now test
-        → LeaveOthers S.view S.File.view.writes _credentials.now test }
+        → (shown : ℕ → Bool) → LeaveOthers S.view S.File.view.writes _credentials.now test shown }
     ensures sweeps { (test : S → Bool) → TakesUploads S.view S.File.view.writes _credentials.now test
         → ReadsPlainly S.view S.listings _credentials.now test
-        → SweepsLeaveOthers S.view S.listings _credentials.now test }
+        → (shown : ℕ → Bool) → SweepsLeaveOthers S.view S.listings _credentials.now test shown }
 {}
 
 /// Over such a store, where also calls that write nothing leave how paths are found, a sweep of what was left before a
@@ -96,40 +98,46 @@ pub fn sweeps_before_leave_others<S: GuardedFileSystem<C>, C>(_fs: &S, _credenti
         → SweepsBeforeAreUnseen S.view S.listings _credentials.now test }
     ensures others { (test : S → Bool) → TakesUploads S.view S.File.view.writes _credentials.now test
         → LeadsPlainly S.view S.listings _credentials.now test
-        → SweepsBeforeLeaveOthers S.view S.listings _credentials.now test }
+        → (shown : ℕ → Bool) → SweepsBeforeLeaveOthers S.view S.listings _credentials.now test shown }
 {}
 
 /// Over such a store nothing stands at the hidden name behind a commit and an abort that worked.
 pub fn ended_uploads_leave_no_name<S: GuardedFileSystem<C>, C>(_fs: &S, _credentials: &C)
     ensures { (test : S → Bool) → TakesUploads S.view S.File.view.writes _credentials.now test
-        → LeaveNoName S.view S.File.view.writes _credentials.now test }
+        → (shown : ℕ → Bool) → LeaveNoName S.view S.File.view.writes _credentials.now test shown }
 {}
 
 /// Calls that write nothing leave what is shown, and each upload standing: those that leave nothing open, those that
-/// open a file that is shown, and those that read from a file that was opened for reading, or close it.
+/// open a file, which is one that is shown where its handle counts as that of a body of such a file, and those that
+/// read from a file that was opened for reading, or close it.
 pub fn reads_leave_uploads()
-    ensures keeps { (s t : DiskState) (v w : World) → s.told ≡ Some v → t.told ≡ Some w → IsWorld v → Keeps s t
-        → SameShown v w × LeavesOthers None IsAny s.live t.live v w }
-    ensures opens { (s t : DiskState) (v w : World) → s.told ≡ Some v → t.told ≡ Some w → IsWorld v → (h : ℕ)
-        → KeepsBut h s t → s.live h ≡ None → (path : Names) (row : Row) → row_at v.tree path ≡ Some row
-        → is_hidden_path path ≡ false → ((o : OpenFile) → w.opens h ≡ Some o → o.number ≡ row.number)
-        → SameShown v w × LeavesOthers None IsAny s.live t.live v w }
-    ensures bodies { (s t : DiskState) (v w : World) → s.told ≡ Some v → t.told ≡ Some w → IsWorld v → (h : ℕ)
-        → KeepsBut h s t → (l : Live) → s.live h ≡ Some l → l.how ≡ reading
+    ensures keeps { (shown : ℕ → Bool) (s t : DiskState) (v w : World) → s.told ≡ Some v → t.told ≡ Some w → IsWorld v
+        → Keeps s t → SameShown v w × LeavesOthers shown None IsAny s.live t.live v w }
+    ensures opens { (shown : ℕ → Bool) (s t : DiskState) (v w : World) → s.told ≡ Some v → t.told ≡ Some w → IsWorld v
+        → (h : ℕ) → KeepsBut h s t → s.live h ≡ None → (shown h ≡ true → IsOfShown v w h)
+        → SameShown v w × LeavesOthers shown None IsAny s.live t.live v w }
+    ensures bodies { (shown : ℕ → Bool) (s t : DiskState) (v w : World) → s.told ≡ Some v → t.told ≡ Some w → IsWorld v
+        → (h : ℕ) → KeepsBut h s t → (l : Live) → s.live h ≡ Some l → l.how ≡ reading
         → ((m : Live) (o : OpenFile) → t.live h ≡ Some m → w.opens h ≡ Some o
         → (p : OpenFile) × (v.opens h ≡ Some p) × (p.number ≡ o.number))
-        → SameShown v w × LeavesOthers (Some h) IsAny s.live t.live v w }
+        → SameShown v w × LeavesOthers shown (Some h) IsAny s.live t.live v w }
 {}
 
 /// An upload with another hidden name and another handle goes on standing where a file is made, filled, taken or moved
-/// elsewhere, and all else that is open stays.
+/// elsewhere, and all else that is open stays. It stands too where other handles count as those of bodies of files that
+/// are shown, as long as no live one is among them that didn't count: so a body that is opened counts from then on.
 pub fn uploads_stand_on()
-    ensures { (own : ℕ) (live then : ℕ → Option Live) (v w : World) (hidden : Names) (h : ℕ) (broken : Bool)
-        (pieces : List ℕ) → OthersOpen own live then v w → (s : StandsIn live v hidden h broken pieces) → h ≢ own
-        → KeepsRow v w hidden → SameShown v w
+    ensures edits { (shown : ℕ → Bool) (own : ℕ) (live then : ℕ → Option Live) (v w : World) (hidden : Names) (h : ℕ)
+        (broken : Bool) (pieces : List ℕ) → OthersOpen own live then v w
+        → (s : StandsIn shown live v hidden h broken pieces) → h ≢ own → KeepsRow v w hidden → SameShown v w
         → (Holds w s.held.number → bytes_of w s.held.number ≡ bytes_of v s.held.number)
-        → ((l : Live) (o : OpenFile) → then own ≡ Some l → w.opens own ≡ Some o → o.number ≢ s.held.number)
-        → StandsIn then w hidden h broken pieces }
+        → ((l : Live) (o : OpenFile) → shown own ≡ true → then own ≡ Some l → w.opens own ≡ Some o
+        → o.number ≢ s.held.number)
+        → StandsIn shown then w hidden h broken pieces }
+    ensures counted { (shown counts : ℕ → Bool) (live : ℕ → Option Live) (w : World) (hidden : Names) (h : ℕ)
+        (broken : Bool) (pieces : List ℕ)
+        → ((k : ℕ) (l : Live) → counts k ≡ true → live k ≡ Some l → shown k ≡ true)
+        → StandsIn shown live w hidden h broken pieces → StandsIn counts live w hidden h broken pieces }
 {}
 
 /// A piece that was written stands behind those before, over any store.

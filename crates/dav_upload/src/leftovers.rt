@@ -123,8 +123,11 @@ fn take_path<S: GuardedFileSystem<C>, C>(
     }
 }
 
-// Removes the files at these paths, and answers how many.
-fn take_each<S: GuardedFileSystem<C>, C>(
+/// Removes the files at these paths, in their order, and answers how many. A name that is gone meanwhile is passed over:
+/// so what `left_before` chose can be looked at before it goes.
+///
+/// Errors: the first refusal of a removal, where those before it stay removed.
+pub fn take_each<S: GuardedFileSystem<C>, C>(
     fs: &mut S,
     credentials: &C,
     paths: &[DavPath],

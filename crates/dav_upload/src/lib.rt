@@ -15,7 +15,7 @@ pub use laws::{
     sweeps_before_leave_others, tokens_are_hidden, uploads_are_whole, uploads_leave_others,
     uploads_stand_on,
 };
-pub use leftovers::{left_before, sweep_before};
+pub use leftovers::{left_before, sweep_before, take_each};
 pub use names::{is_hidden, is_taken};
 pub use sweeping::sweep;
 pub use upload::{Upload, abort, begin, commit, piece};

@@ -14,7 +14,7 @@ use Rattle.dav_core.specs.Disk.{DiskState, Live, OpenedIn, Opens as DiskOpens, a
 use Rattle.dav_core.specs.Info.{Info}
 use Rattle.dav_core.specs.Path.{is_plain}
 use Rattle.dav_core.specs.Tree.{is_dir, is_linked, row_at}
-use Rattle.dav_core.specs.Unchanged.{Keeps, KeepsBut}
+use Rattle.dav_core.specs.Unchanged.{Keeps}
 use Rattle.dav_core.specs.World.{IsWorld, OpenFile, SameBesidesOpens, World}
 use Rattle.dav_core.specs.Writing.{reading}
 use Rattle.dav_core.proofs.UnchangedLemmas.{keeps_same, put_same}
@@ -45,7 +45,7 @@ use Rattle.dav_local.specs.Standing.{seen_at, seen_with}
 use Rattle.dav_local.specs.Standing as local_seen
 use Rattle.dav_local.proofs.Rows.{looked_row}
 use Rattle.dav_local_laws.specs.LocalStore.{IsLocalStore, place}
-use Rattle.dav_upload.specs.Others.{IsAny, LeavesOthers}
+use Rattle.dav_upload.specs.Others.{IsAny, IsOfShown, LeavesOthers}
 use Rattle.dav_upload.specs.Shown.{SameShown}
 use Rattle.dav_upload.proofs.ReadsLeave.{keeps_leave, opened_leaves, read_leaves}
 use Rattle.dav_upload_laws.specs.Reading.{IsRead, IsShownAt, handle_of}
@@ -277,42 +277,51 @@ module _ {S C : Type 0} (view : View S C LocalFsFile) (lists : Listings S C Loca
       ]
 
   -- what a GET leaves
-  module _ (q : Query) (s t : S) (v w : World) (was : (view.state s).told ≡ Some v) (now : (view.state t).told ≡ Some w) where
+  module _ (counts : ℕ → Bool) (q : Query) (s t : S) (v w : World) (was : (view.state s).told ≡ Some v) (now : (view.state t).told ≡ Some w) where
     abbrev Left : Type 0
-    Left = SameShown v w × LeavesOthers None IsAny (view.state s).live (view.state t).live v w
+    Left = SameShown v w × LeavesOthers counts None IsAny (view.state s).live (view.state t).live v w
 
     is_world : IsWorld v
     is_world = local.worlds s v was
 
-    held_leaves : (answer : Answer LocalFsFile) (h : OpenAt LocalFsFile) → finds_as_written (ways s) ≡ true → KeepsBut (view.file.handle h.file) (view.state s) (view.state t)
-        → (view.state s).live (view.file.handle h.file) ≡ None → (view.state t).live (view.file.handle h.file) ≡ Some read_file → OpenedAt view lists c (IsShownAt v) q s answer t → answer.1.file ≡ Some h → Left
-    held_leaves answer h plain keeps fresh live o file =
+    -- what a body has open is the file of the row at the path that was opened
+    of_its_row : (answer : Answer LocalFsFile) (h : OpenAt LocalFsFile) → finds_as_written (ways s) ≡ true → (view.state t).live (view.file.handle h.file) ≡ Some read_file → answer.1.file ≡ Some h
+        → OpenedAt view lists c (IsShownAt v) q s answer t → IsOfShown v w (view.file.handle h.file)
+    of_its_row answer h plain live file o =
         let (u, here, same) = told_after (view.state s).told (view.state o.before).told SameBesidesOpens v o.keeps.world was in
         let still : finds_as_written (ways o.before) ≡ true = ap finds_as_written (local.looks s o.before c q.path o.look o.looks).1 ∙ plain in
-        let r = opened_row o.before o.opened o.path o.file u still here (ap (λ tree. is_linked tree o.path.names) same.tree ∙ o.allowed.clear) o.opens in
-        opened_leaves (view.state s) (view.state t) v w was now is_world (view.file.handle h.file) keeps fresh o.path.names r.row (ap (λ tree. row_at tree o.path.names) (sym same.tree) ∙ r.at) o.allowed.shows
-        (λ x opens. o.carries h file r.row.number r.number _ (local_seen_at h.file (view.state t) ∙ open_seen (view.state t) w (view.file.handle h.file) read_file x now live opens))
+        let r = opened_row o.before o.opened o.path o.file u still here (ap (λ tree. is_linked tree o.path.names) same.tree ∙ o.allowed.clear) o.opens in (
+          o.path.names,
+          r.row,
+          ap (λ tree. row_at tree o.path.names) (sym same.tree) ∙ r.at,
+          o.allowed.shows,
+          λ x opens. o.carries h file r.row.number r.number _ (local_seen_at h.file (view.state t) ∙ open_seen (view.state t) w (view.file.handle h.file) read_file x now live opens),
+        )
 
-    body_leaves : (answer : Answer LocalFsFile) → OpenOnlyHeld view s (Ok answer) t → ((h : OpenAt LocalFsFile) → answer.1.file ≡ Some h → OpenedAt view lists c (IsShownAt v) q s answer t) → finds_as_written (ways s) ≡ true → Left
+    body_leaves : (answer : Answer LocalFsFile) → OpenOnlyHeld view s (Ok answer) t
+        → ((h : OpenAt LocalFsFile) → answer.1.file ≡ Some h → (view.state s).live (view.file.handle h.file) ≡ None → counts (view.file.handle h.file) ≡ true → OpenedAt view lists c (IsShownAt v) q s answer t)
+        → finds_as_written (ways s) ≡ true → Left
     body_leaves answer life opened plain = by answer.1.file refl
       where
         by : (file : Option (OpenAt LocalFsFile)) → answer.1.file ≡ file → Left
-        by None e = keeps_leave (view.state s) (view.state t) v w was now is_world (subst (λ f. OpensOnly view.file.handle (view.state s) f (view.state t)) e life.1)
+        by None e = keeps_leave counts (view.state s) (view.state t) v w was now is_world (subst (λ f. OpensOnly view.file.handle (view.state s) f (view.state t)) e life.1)
         by (Some h) e =
             let (keeps, fresh, live) = subst (λ f. OpensOnly view.file.handle (view.state s) f (view.state t)) e life.1 in
-            held_leaves answer h plain keeps fresh live (opened h e) e
+            opened_leaves counts (view.state s) (view.state t) v w was now is_world (view.file.handle h.file) keeps fresh (λ is_counted. of_its_row answer h plain live e (opened h e fresh is_counted))
 
-    pub get_leaves : (r : Given LocalFsFile) → finds_as_written (ways s) ≡ true → OfItsPaths q (IsShownAt v) → Gets view lists q c s r t ⊎ (r ≡ Err NoMemory) → OpenOnlyHeld view s r t → Left
-    get_leaves (Err e) plain of run life = keeps_leave (view.state s) (view.state t) v w was now is_world life
-    get_leaves (Ok answer) plain of (inl gets) life = body_leaves answer life (λ h file. gets_open view lists c (IsShownAt v) q of s answer t h file gets) plain
+    pub get_leaves : (r : Given LocalFsFile) → finds_as_written (ways s) ≡ true → ((k : ℕ) → (view.state s).live k ≡ None → counts k ≡ true → OfItsPaths q (IsShownAt v)) → Gets view lists q c s r t ⊎ (r ≡ Err NoMemory)
+        → OpenOnlyHeld view s r t → Left
+    get_leaves (Err e) plain of run life = keeps_leave counts (view.state s) (view.state t) v w was now is_world life
+    get_leaves (Ok answer) plain of (inl gets) life =
+        body_leaves answer life (λ h file fresh is_counted. gets_open view lists c (IsShownAt v) q (of (view.file.handle h.file) fresh is_counted) s answer t h file gets) plain
     get_leaves (Ok answer) plain of (inr none) life = cc
 
     -- a page that is asked for by itself
     pub page_leaves : (r : Given LocalFsFile) → ByCourse view lists (page_course q.settings) q c s r t ⊎ (r ≡ Err NoMemory) → OpenOnlyHeld view s r t → Left
-    page_leaves (Err e) run life = keeps_leave (view.state s) (view.state t) v w was now is_world life
+    page_leaves (Err e) run life = keeps_leave counts (view.state s) (view.state t) v w was now is_world life
     page_leaves (Ok answer) (inr none) life = cc
     page_leaves (Ok answer) (inl page) life =
-        keeps_leave (view.state s) (view.state t) v w was now is_world (subst (λ f. OpensOnly view.file.handle (view.state s) f (view.state t)) (by (due.may_list q.settings.autoindex q.settings.allow) page) life.1)
+        keeps_leave counts (view.state s) (view.state t) v w was now is_world (subst (λ f. OpensOnly view.file.handle (view.state s) f (view.state t)) (by (due.may_list q.settings.autoindex q.settings.allow) page) life.1)
       where
         by : (b : Bool) → ByCourse view lists (cond b listing (refusing 405 true)) q c s (Ok answer) t → answer.1.file ≡ None
         by true (answered, is, kept, after) = listed_none view lists c answered q answer after
@@ -336,14 +345,14 @@ module _ {S C : Type 0} (view : View S C LocalFsFile) (lists : Listings S C Loca
           let is : y ≡ local_seen.seen_in w read_file.kind o = cc in
           (p, there, number ∙ (ap (λ (s : Standing). s.number) (sym both) ∙ ap (λ (z : Seen). z.stands.number) is))
 
-  pub polls_leave : (m n : DiskState) (v w : World) → m.told ≡ Some v → n.told ≡ Some w → IsWorld v → (before after : Option (OpenAt LocalFsFile)) → IsRead view.file.handle m before → TouchesOwn view.file m before n after
-      → SameShown v w × LeavesOthers (handle_of view.file.handle before) IsAny m.live n.live v w
-  polls_leave m n v w was now is None None read same = keeps_leave m n v w was now is (subst (Keeps m) (sym same) (keeps_same m))
-  polls_leave m n v w was now is None (Some g) read touched = absurd touched
-  polls_leave m n v w was now is (Some h) None live (keeps, gone) =
-      read_leaves m n v w was now is (view.file.handle h.file) keeps read_file live refl (λ l o is_live opens. (let none : ◌≡◌ {A = Option Live} None (Some l) = sym gone ∙ is_live in cc))
-  polls_leave m n v w was now is (Some h) (Some g) live (keeps, same, still, stands, becomes) =
-      read_leaves m n v w was now is (view.file.handle h.file) keeps read_file live refl
+  pub polls_leave : (counts : ℕ → Bool) (m n : DiskState) (v w : World) → m.told ≡ Some v → n.told ≡ Some w → IsWorld v → (before after : Option (OpenAt LocalFsFile)) → IsRead view.file.handle m before → TouchesOwn view.file m before n after
+      → SameShown v w × LeavesOthers counts (handle_of view.file.handle before) IsAny m.live n.live v w
+  polls_leave counts m n v w was now is None None read same = keeps_leave counts m n v w was now is (subst (Keeps m) (sym same) (keeps_same m))
+  polls_leave counts m n v w was now is None (Some g) read touched = absurd touched
+  polls_leave counts m n v w was now is (Some h) None live (keeps, gone) =
+      read_leaves counts m n v w was now is (view.file.handle h.file) keeps read_file live refl (λ l o is_live opens. (let none : ◌≡◌ {A = Option Live} None (Some l) = sym gone ∙ is_live in cc))
+  polls_leave counts m n v w was now is (Some h) (Some g) live (keeps, same, still, stands, becomes) =
+      read_leaves counts m n v w was now is (view.file.handle h.file) keeps read_file live refl
       (λ l o is_live opens. polled_number m n v w h.file g.file was now (still ∙ live) same stands o opens)
 
   pub handed_on : (m n : DiskState) (before after : Option (OpenAt LocalFsFile)) → IsRead view.file.handle m before → TouchesOwn view.file m before n after → IsRead view.file.handle n after

@@ -450,9 +450,9 @@ module _ {S C : Type 0} (view : View S C LocalFsFile) (lists : Listings S C Loca
 
   -- ---- a piece
 
-  pub piece_succeeds : (u x : Upload LocalFsFile) (s t : S) (v : World) (bytes pieces : List ℕ) (r : Result Unit UploadError) → StandsIn (view.state s).live v u.hidden.names (view.file.handle u.file) u.broken pieces → u.broken ≡ false
+  pub piece_succeeds : (shown : ℕ → Bool) (u x : Upload LocalFsFile) (s t : S) (v : World) (bytes pieces : List ℕ) (r : Result Unit UploadError) → StandsIn shown (view.state s).live v u.hidden.names (view.file.handle u.file) u.broken pieces → u.broken ≡ false
       → RefusedNothing (view.state s).faults (view.state t).faults → WritesPiece view writes u bytes s r t x → Succeeds r
-  piece_succeeds u x s t v bytes pieces r stands whole none piece_so = by (subst (λ b. PieceOn view writes b u bytes s r t x) whole piece_so)
+  piece_succeeds shown u x s t v bytes pieces r stands whole none piece_so = by (subst (λ b. PieceOn view writes b u bytes s r t x) whole piece_so)
     where
       may : (o : Option Live) → (view.state s).live (view.file.handle u.file) ≡ o → IsSome o → can_write o ≡ true
       may None e some = cc
@@ -485,7 +485,7 @@ module _ {S C : Type 0} (view : View S C LocalFsFile) (lists : Listings S C Loca
       ap (λ a. first (when path.slash 405 ∷ when (not (is_dir_found a)) 409 ∷ refused_there (stands x u path) ∷ when (is_dir_found (stands x u path)) 405 ∷ the_unmet Put fields (stands x u path) ∷ [])) (stands_same x v u (the_above path) same)
       ∙ (ap (λ b. first (when path.slash 405 ∷ when (not (has_parent x v path)) 409 ∷ refused_there b ∷ when (is_dir_found b) 405 ∷ the_unmet Put fields b ∷ [])) (stands_same x v u path same) ∙ passes)
 
-  module _ (u : Upload LocalFsFile) (s t : S) (v : World) (pieces : List ℕ) (was : (view.state s).told ≡ Some v) (stands_so : StandsIn (view.state s).live v u.hidden.names (view.file.handle u.file) u.broken pieces)
+  module _ (shown : ℕ → Bool) (u : Upload LocalFsFile) (s t : S) (v : World) (pieces : List ℕ) (was : (view.state s).told ≡ Some v) (stands_so : StandsIn shown (view.state s).live v u.hidden.names (view.file.handle u.file) u.broken pieces)
       (plain : finds_as_written (ways s) ≡ true) (none : RefusedNothing (view.state s).faults (view.state t).faults) where
     -- a store on the way to the end, before the hidden file was moved or taken
     record Waits (m : S) : Type 0 where

@@ -340,10 +340,10 @@ module _ {S C : Type 0} (view : View S C LocalFsFile) (lists : Listings S C Loca
 
   -- ---- the sweep
 
-  pub others_left : (dir : WebPath) (limit : FileTime) (s t : S) (v w : World) (r : Result ℕ UploadError) → (view.state s).told ≡ Some v → (view.state t).told ≡ Some w → finds_as_written (ways s) ≡ true → HasClearNames v dir.names
-      → is_clear v.tree dir.names ≡ true → SweepsBefore view lists c dir limit s r t → LeavesOthers None (IsNotLeftBefore v dir.names limit) (view.state s).live (view.state t).live v w
-  others_left dir limit s t v w r was now plain clear_names clear sweeps =
-      before_left view writes c (λ s. finds_as_written (ways s)) takes_all lists (local_leads view lists writes c ways memory moment local) dir limit (IsNotLeftBefore v dir.names limit) s t v w r was now plain clear_names
+  pub others_left : (shown : ℕ → Bool) (dir : WebPath) (limit : FileTime) (s t : S) (v w : World) (r : Result ℕ UploadError) → (view.state s).told ≡ Some v → (view.state t).told ≡ Some w → finds_as_written (ways s) ≡ true → HasClearNames v dir.names
+      → is_clear v.tree dir.names ≡ true → SweepsBefore view lists c dir limit s r t → LeavesOthers shown None (IsNotLeftBefore v dir.names limit) (view.state s).live (view.state t).live v w
+  others_left shown dir limit s t v w r was now plain clear_names clear sweeps =
+      before_left view writes c (λ s. finds_as_written (ways s)) takes_all lists (local_leads view lists writes c ways memory moment local) shown dir limit (IsNotLeftBefore v dir.names limit) s t v w r was now plain clear_names
       (λ read m listed. off_chosen (IsNotLeftBefore v dir.names limit) (left_before limit dir read) (λ p off i. off (chosen_left dir limit s m v read p was plain clear listed i))) sweeps
 
   pub swept_before : (dir : WebPath) (limit : FileTime) (s t : S) (v w : World) (r : Result ℕ UploadError) → (view.state s).told ≡ Some v → (view.state t).told ≡ Some w → finds_as_written (ways s) ≡ true → HasClearNames v dir.names

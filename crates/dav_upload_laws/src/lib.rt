@@ -1,7 +1,7 @@
 //! What uploads make of the world that is shown, over a local store. The calls do nothing.
 #![tactic(auto)]
 
-ghost use Rattle.std.specs.Prelude.{◌≡◌, ◌⊎◌, ℕ, List, Err, None, Option, Result, Some, false, true};
+ghost use Rattle.std.specs.Prelude.{◌≡◌, ◌⊎◌, ℕ, Bool, List, Err, None, Option, Result, Some, false, true};
 ghost use Rattle.dav_io.specs.Counts.{RefusedNothing};
 ghost use Rattle.dav_core.specs.declared.time.FileTime.{FileTime as Time};
 ghost use Rattle.dav_core.specs.DavPath.{WebPath};
@@ -58,10 +58,11 @@ pub fn local_stores_take_uploads<D: Disk, R: Remember>(_fs: &LocalFs<D, R>)
 
 /// Over a local store that finds each path as it is written, where no link stands on the way to the paths of an upload:
 /// a beginning, a piece, an abort and a sweep leave what is shown, and a commit leaves it or makes its target a file of
-/// all pieces. At Ok an upload that begins stands, and a commit was made; a piece keeps its upload standing.
+/// all pieces. At Ok an upload that begins stands, and a commit was made; a piece keeps its upload standing. That holds
+/// whichever handles count as those of bodies of files that are shown.
 pub fn local_uploads_are_whole<D: Disk, R: Remember>(_fs: &LocalFs<D, R>)
-    ensures steps { AreWhole ⟦<LocalFs<D, R> as DavFileSystem>⟧.view ⟦<LocalFsFile as DavFile<D>>⟧.view.writes tt
-        (λ s. finds_as_written s.ways) }
+    ensures steps { (shown : ℕ → Bool) → AreWhole ⟦<LocalFs<D, R> as DavFileSystem>⟧.view
+        ⟦<LocalFsFile as DavFile<D>>⟧.view.writes tt (λ s. finds_as_written s.ways) shown }
     ensures sweeps { SweepsAreUnseen ⟦<LocalFs<D, R> as DavFileSystem>⟧.view
         ⟦<LocalFs<D, R> as DavFileSystem>⟧.listings tt (λ s. finds_as_written s.ways) }
 {
@@ -69,40 +70,44 @@ pub fn local_uploads_are_whole<D: Disk, R: Remember>(_fs: &LocalFs<D, R>)
 }
 
 /// Over such a store each step of an upload leaves to others what they have: the bytes of each file but its own stay as
-/// long as somebody holds it, what another handle has open stays open with its bytes, and each upload with another
-/// hidden path goes on standing. A sweep leaves so what stands at all but the hidden names of its directory.
+/// long as somebody holds it, what another handle has open stays open, with its bytes where it counts as that of a body
+/// of a file that is shown, and each upload with another hidden path goes on standing. A sweep leaves so what stands at
+/// all but the hidden names of its directory.
 pub fn local_uploads_leave_others<D: Disk, R: Remember>(_fs: &LocalFs<D, R>)
-    ensures steps { LeaveOthers ⟦<LocalFs<D, R> as DavFileSystem>⟧.view ⟦<LocalFsFile as DavFile<D>>⟧.view.writes tt
-        (λ s. finds_as_written s.ways) }
-    ensures sweeps { SweepsLeaveOthers ⟦<LocalFs<D, R> as DavFileSystem>⟧.view
-        ⟦<LocalFs<D, R> as DavFileSystem>⟧.listings tt (λ s. finds_as_written s.ways) }
+    ensures steps { (shown : ℕ → Bool) → LeaveOthers ⟦<LocalFs<D, R> as DavFileSystem>⟧.view
+        ⟦<LocalFsFile as DavFile<D>>⟧.view.writes tt (λ s. finds_as_written s.ways) shown }
+    ensures sweeps { (shown : ℕ → Bool) → SweepsLeaveOthers ⟦<LocalFs<D, R> as DavFileSystem>⟧.view
+        ⟦<LocalFs<D, R> as DavFileSystem>⟧.listings tt (λ s. finds_as_written s.ways) shown }
 {
     local_stores_take_uploads(_fs)
 }
 
-/// A GET or HEAD of a path that isn't hidden, over a local store that finds each path as it is written, leaves what is
-/// shown and each upload standing, where no link stands on the way to the path, or to the index file that may stand for
-/// it: what its body has open is the file of a row that is shown. A page that is asked for by itself opens none. A poll
-/// keeps that file or closes it, and leaves the same.
+/// A GET or HEAD, over a local store that finds each path as it is written, leaves what is shown and each upload
+/// standing. Where a handle that isn't live yet counts as that of a body of a file that is shown, the path isn't hidden
+/// and no link stands on the way to it, or to the index file that may stand for it: what the body has open is the file
+/// of a row that is shown. Where none counts any path may be asked for, a hidden one too. A page that is asked for by
+/// itself opens no file. A poll keeps the body's file or closes it, and leaves the same.
 pub fn local_reads_leave_uploads<D: Disk, R: Remember>(_fs: &LocalFs<D, R>)
-    ensures gets { (q : Query) (s t : LocalFs D R) (v w : World) (r : Given LocalFsFile)
+    ensures gets { (shown : ℕ → Bool) (q : Query) (s t : LocalFs D R) (v w : World) (r : Given LocalFsFile)
         → (D.state s.disk).told ≡ Some v → (D.state t.disk).told ≡ Some w → finds_as_written s.ways ≡ true
-        → OfItsPaths q (IsShownAt v)
+        → ((k : ℕ) → (D.state s.disk).live k ≡ None → shown k ≡ true → OfItsPaths q (IsShownAt v))
         → Gets ⟦<LocalFs<D, R> as DavFileSystem>⟧.view ⟦<LocalFs<D, R> as DavFileSystem>⟧.listings q tt s r t
         ⊎ (r ≡ Err DavError.NoMemory)
         → OpenOnlyHeld ⟦<LocalFs<D, R> as DavFileSystem>⟧.view s r t
-        → SameShown v w × LeavesOthers None IsAny (D.state s.disk).live (D.state t.disk).live v w }
-    ensures pages { (q : Query) (s t : LocalFs D R) (v w : World) (r : Given LocalFsFile)
+        → SameShown v w × LeavesOthers shown None IsAny (D.state s.disk).live (D.state t.disk).live v w }
+    ensures pages { (shown : ℕ → Bool) (q : Query) (s t : LocalFs D R) (v w : World) (r : Given LocalFsFile)
         → (D.state s.disk).told ≡ Some v → (D.state t.disk).told ≡ Some w
         → ByCourse ⟦<LocalFs<D, R> as DavFileSystem>⟧.view ⟦<LocalFs<D, R> as DavFileSystem>⟧.listings
         (page_course q.settings) q tt s r t ⊎ (r ≡ Err DavError.NoMemory)
         → OpenOnlyHeld ⟦<LocalFs<D, R> as DavFileSystem>⟧.view s r t
-        → SameShown v w × LeavesOthers None IsAny (D.state s.disk).live (D.state t.disk).live v w }
-    ensures polls { (m n : DiskState) (v w : World) (before after : Option (OpenAt LocalFsFile)) → m.told ≡ Some v
-        → n.told ≡ Some w → IsWorld v → IsRead ⟦<LocalFs<D, R> as DavFileSystem>⟧.view.file.handle m before
+        → SameShown v w × LeavesOthers shown None IsAny (D.state s.disk).live (D.state t.disk).live v w }
+    ensures polls { (shown : ℕ → Bool) (m n : DiskState) (v w : World) (before after : Option (OpenAt LocalFsFile))
+        → m.told ≡ Some v → n.told ≡ Some w → IsWorld v
+        → IsRead ⟦<LocalFs<D, R> as DavFileSystem>⟧.view.file.handle m before
         → TouchesOwn ⟦<LocalFs<D, R> as DavFileSystem>⟧.view.file m before n after
         → SameShown v w
-        × LeavesOthers (handle_of ⟦<LocalFs<D, R> as DavFileSystem>⟧.view.file.handle before) IsAny m.live n.live v w
+        × LeavesOthers shown (handle_of ⟦<LocalFs<D, R> as DavFileSystem>⟧.view.file.handle before) IsAny m.live n.live
+        v w
         × IsRead ⟦<LocalFs<D, R> as DavFileSystem>⟧.view.file.handle n after }
 {
     calls_are_local(_fs)
@@ -119,25 +124,25 @@ pub fn local_uploads_succeed<D: Disk, R: Remember>(_fs: &LocalFs<D, R>)
         → row_at v.tree (hidden_beside target token).names ≡ None → PassesTable (rules_of s.ways) v target fields
         → RefusedNothing (D.state s.disk).faults (D.state t.disk).faults
         → Begins ⟦<LocalFs<D, R> as DavFileSystem>⟧.view tt target fields token s r t → Succeeds r }
-    ensures pieces { (u x : Upload LocalFsFile) (s t : LocalFs D R) (v : World) (bytes pieces : List ℕ)
+    ensures pieces { (shown : ℕ → Bool) (u x : Upload LocalFsFile) (s t : LocalFs D R) (v : World) (bytes pieces : List ℕ)
         (r : Result Unit Refusal)
-        → StandsIn (D.state s.disk).live v u.hidden.names (⟦<LocalFs<D, R> as DavFileSystem>⟧.view.file.handle u.file)
-        u.broken pieces
+        → StandsIn shown (D.state s.disk).live v u.hidden.names
+        (⟦<LocalFs<D, R> as DavFileSystem>⟧.view.file.handle u.file) u.broken pieces
         → u.broken ≡ false → RefusedNothing (D.state s.disk).faults (D.state t.disk).faults
         → WritesPiece ⟦<LocalFs<D, R> as DavFileSystem>⟧.view ⟦<LocalFsFile as DavFile<D>>⟧.view.writes u bytes s r t x → Succeeds r }
-    ensures commits { (u : Upload LocalFsFile) (s t : LocalFs D R) (v : World) (pieces : List ℕ) (fields : Fields)
-        (r : Result Outcome Refusal) → (D.state s.disk).told ≡ Some v → finds_as_written s.ways ≡ true
-        → StandsIn (D.state s.disk).live v u.hidden.names (⟦<LocalFs<D, R> as DavFileSystem>⟧.view.file.handle u.file)
-        u.broken pieces
+    ensures commits { (shown : ℕ → Bool) (u : Upload LocalFsFile) (s t : LocalFs D R) (v : World) (pieces : List ℕ)
+        (fields : Fields) (r : Result Outcome Refusal) → (D.state s.disk).told ≡ Some v → finds_as_written s.ways ≡ true
+        → StandsIn shown (D.state s.disk).live v u.hidden.names
+        (⟦<LocalFs<D, R> as DavFileSystem>⟧.view.file.handle u.file) u.broken pieces
         → u.broken ≡ false → IsBeside u.target.names u.hidden.names → IsClear v u.target.names u.hidden.names
         → IsRegular (rules_of s.ways) (knowledge_of (R.state s.memory)) v
         → is_forbidden (rules_of s.ways) u.target ≡ false → PassesTable (rules_of s.ways) v u.target fields
         → RefusedNothing (D.state s.disk).faults (D.state t.disk).faults
         → Commits ⟦<LocalFs<D, R> as DavFileSystem>⟧.view tt u fields s r t → Succeeds r }
-    ensures aborts { (u : Upload LocalFsFile) (s t : LocalFs D R) (v : World) (pieces : List ℕ)
+    ensures aborts { (shown : ℕ → Bool) (u : Upload LocalFsFile) (s t : LocalFs D R) (v : World) (pieces : List ℕ)
         (r : Result Unit Refusal) → (D.state s.disk).told ≡ Some v → finds_as_written s.ways ≡ true
-        → StandsIn (D.state s.disk).live v u.hidden.names (⟦<LocalFs<D, R> as DavFileSystem>⟧.view.file.handle u.file)
-        u.broken pieces
+        → StandsIn shown (D.state s.disk).live v u.hidden.names
+        (⟦<LocalFs<D, R> as DavFileSystem>⟧.view.file.handle u.file) u.broken pieces
         → u.hidden.slash ≡ false → is_linked v.tree u.hidden.names ≡ false
         → RefusedNothing (D.state s.disk).faults (D.state t.disk).faults
         → Aborts ⟦<LocalFs<D, R> as DavFileSystem>⟧.view tt u s r t → Succeeds r }
@@ -166,12 +171,13 @@ pub fn local_sweeps_take_what_was_left_before<D: Disk, R: Remember>(_fs: &LocalF
         → SweepsBefore ⟦<LocalFs<D, R> as DavFileSystem>⟧.view ⟦<LocalFs<D, R> as DavFileSystem>⟧.listings tt dir limit
         s r t
         → SweptBefore dir.names limit r (D.state s.disk).faults (D.state t.disk).faults v w }
-    ensures others { (dir : WebPath) (limit : Time) (s t : LocalFs D R) (v w : World) (r : Result ℕ Refusal)
+    ensures others { (shown : ℕ → Bool) (dir : WebPath) (limit : Time) (s t : LocalFs D R) (v w : World)
+        (r : Result ℕ Refusal)
         → (D.state s.disk).told ≡ Some v → (D.state t.disk).told ≡ Some w → finds_as_written s.ways ≡ true
         → HasClearNames v dir.names → is_clear v.tree dir.names ≡ true
         → SweepsBefore ⟦<LocalFs<D, R> as DavFileSystem>⟧.view ⟦<LocalFs<D, R> as DavFileSystem>⟧.listings tt dir limit
         s r t
-        → LeavesOthers None (IsNotLeftBefore v dir.names limit) (D.state s.disk).live (D.state t.disk).live v w }
+        → LeavesOthers shown None (IsNotLeftBefore v dir.names limit) (D.state s.disk).live (D.state t.disk).live v w }
 {
     calls_are_local(_fs)
 }

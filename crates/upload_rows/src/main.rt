@@ -9,6 +9,8 @@
 //!     SLOT commit FIELD..             ends it
 //!     SLOT abort                      gives it up
 //!     sweep PATH                      sweeps a directory, and answers how many files went
+//!     before PATH SECONDS NANOS       sweeps what was changed before this time; without NANOS at the whole second
+//!     meanwhile PATH SECONDS OTHER    the same, where another client removes the file OTHER once the names are chosen
 //!     get PATH                        the bytes of a file, at most 64
 //!     open PATH                       opens a file, which stays open to the calls that follow
 //!     read COUNT                      reads on in it, at most 64 bytes
@@ -28,6 +30,7 @@ ghost use Rattle.upload_rows.specs.Slots.{Goes, IsLive, upload_of};
 mod reading;
 mod scene;
 mod steps;
+mod sweeps;
 mod words;
 
 use dav_cache::Owned;
@@ -36,12 +39,13 @@ use dav_disk::MemDisk;
 use dav_local::LocalFs;
 use dav_rows::Line;
 use dav_store::{DavFile, GuardedFileSystem, read_members};
-use dav_upload::{Upload, abort, sweep};
+use dav_upload::{Upload, abort};
 use reading::{close, get, read_on};
 use scene::{is_set, set_all};
 use std::alloc::Global;
 use std::io;
-use steps::{step, tell_refusal};
+use steps::step;
+use sweeps::{sweep_all, sweep_before_time, sweep_meanwhile};
 use words::{CallWords, said};
 
 fn tell_members(line: &mut Line, members: &[Member]) {
@@ -70,10 +74,9 @@ fn call<S: GuardedFileSystem<()>>(alloc: Global, line: &mut Line, store: &mut S,
     ensures { KeepsOpen (S.view.state store.old) (S.view.state store.new) }
 {
     match said.kind.as_str() {
-        "sweep" => match sweep(alloc, store, &(), &said.path) {
-            Ok(count) => line.add_number("swept ", count),
-            Err(error) => tell_refusal(line, error),
-        },
+        "sweep" => sweep_all(alloc, line, store, said),
+        "before" => sweep_before_time(alloc, line, store, said),
+        "meanwhile" => sweep_meanwhile(alloc, line, store, said),
         "get" => get(line, store, &said.path),
         "names" => tell_names(line, read_members(alloc, store, &said.path, &())),
         "rm" => tell_done(line, store.remove_file(&said.path, &())),

@@ -1,12 +1,13 @@
 //! The words of a call.
 use crate::reading::Reading;
 use crate::steps::Call;
-use dav_core::DavPath;
+use dav_core::{DavPath, FileTime};
 use dav_rows::{Line, add_field, word};
 use http::HeaderMap;
 use std::alloc::Global;
 
-/// A part that makes a call: of the upload of a slot, the first or the second, of the reader, or another.
+/// A part that makes a call: of the upload of a slot, the first or the second, of the reader, or another. `limit` is the
+/// time of a sweep by age, and `other` the file that another client removes meanwhile.
 #[derive(Drop)]
 pub struct CallWords {
     pub second: bool,
@@ -15,6 +16,8 @@ pub struct CallWords {
     pub token: u64,
     pub bytes: String,
     pub fields: HeaderMap,
+    pub limit: FileTime,
+    pub other: DavPath,
 }
 
 impl CallWords {
@@ -112,8 +115,25 @@ fn path_word(part: &str) -> &str {
     }
 }
 
-// What a part says at this path.
-fn said_at(alloc: Global, line: &mut Line, part: &str, path: DavPath) -> CallWords {
+// The time of a sweep by age, and that of the beginning of 1970 where none is said.
+fn limit_of(words: &str) -> FileTime {
+    FileTime {
+        secs: word(words, 2).parse::<i64>().unwrap_or(0),
+        nanos: word(words, 3).parse::<u32>().unwrap_or(0),
+    }
+}
+
+// The path of the file that another client removes meanwhile.
+fn other_word(words: &str) -> &str {
+    if word(words, 0) == "meanwhile" {
+        word(words, 3)
+    } else {
+        "/"
+    }
+}
+
+// What a part says at these paths.
+fn said_at(alloc: Global, line: &mut Line, part: &str, path: DavPath, other: DavPath) -> CallWords {
     let words = words_of(part);
     CallWords {
         second: part.starts_with("2 "),
@@ -122,14 +142,16 @@ fn said_at(alloc: Global, line: &mut Line, part: &str, path: DavPath) -> CallWor
         token: token_of(line, words),
         bytes: copy_of(alloc, line, word(words, 1)),
         fields: fields_of(alloc, line, words),
+        limit: limit_of(words),
+        other,
     }
 }
 
 /// What a part says: `SLOT begin PATH TOKEN FIELD..`, `SLOT piece BYTES`, `SLOT commit FIELD..`, `SLOT abort`,
-/// `read COUNT`, `close`, or a word and a path. A token is written in hexadecimal digits.
+/// `read COUNT`, `close`, `before PATH SECONDS NANOS`, `meanwhile PATH SECONDS OTHER`, or a word and a path. A token is
+/// written in hexadecimal digits.
 pub fn said(alloc: Global, line: &mut Line, part: &str) -> Option<CallWords> {
-    match DavPath::new(alloc, path_word(part)) {
-        Ok(path) => Some(said_at(alloc, line, part, path)),
-        Err(_) => None,
-    }
+    let other = DavPath::new(alloc, other_word(words_of(part))).ok()?;
+    let path = DavPath::new(alloc, path_word(part)).ok()?;
+    Some(said_at(alloc, line, part, path, other))
 }

@@ -16,9 +16,9 @@ returns-clause-swept g c = λ dir older is plain v w was now names clear.
     (r, c.local_sweeps_take_what_was_left_before.ensures.swept dir _ _ _ v w r was now plain names clear sweeps, ended))
 
 pub returns-clause-others : goal.returns-clause-others
-returns-clause-others g c = λ dir older is plain v w was now names clear.
+returns-clause-others g c = λ shown dir older is plain v w was now names clear.
     (let (r, sweeps, ended) = swept_of _ _ _ tt _ dir older _ _ _ _ _ _ is c.perform.ensures.table in
-    c.local_sweeps_take_what_was_left_before.ensures.others dir _ _ _ v w r was now plain names clear sweeps)
+    c.local_sweeps_take_what_was_left_before.ensures.others shown dir _ _ _ v w r was now plain names clear sweeps)
 
 pub returns-clause-failed : goal.returns-clause-failed
 returns-clause-failed g c = c.perform.ensures.failed c.local_stores_refuse_few.ensures
