@@ -33,8 +33,6 @@ use Rattle.dav_config.specs.Failing.{FailsOver}
 use Rattle.dav_config.specs.Reading.{ReadsBulk}
 use Rattle.dav_config.specs.Responses.{IsBare, Responded, Responds}
 use Rattle.dav_config.specs.Writing.{KeepsUnless, Order, RefusedIn, WritesOver, asks_to_write, order}
-use Rattle.http.specs.Request.{head_of as asked_head}
-use Rattle.dav_config.specs.declared.asked.Asked.{Asked}
 
 -- ---- a store's meanings in one value
 
@@ -213,13 +211,3 @@ module _ {S C F L E : Type 0} (served : Served S C F L E) where
   HandlesAll {B} reader asking old body r new = (after : B) × (reader.loan after ≡ reader.loan body)
       × Handles asking (record { store = old; body = reader.state body }) r
       (record { store = new; body = reader.state after })
-
--- ---- what is asked of a handler, behind its references
-
-abbrev pub asking_of : {C : Type 0} → Asked C → Asking C
-asking_of asked = record {
-  settings = asked.settings.now;
-  head = asked_head asked.head.now;
-  credentials = asked.credentials.now;
-  now = asked.now;
-}
