@@ -1,5 +1,5 @@
 -- What was found by a request whose body is behind a reader, as a handler's clause says it.
-use Rattle.std.proofs.Common.{◌≡◌, ◌⊎◌, inl, inr, ℕ, List, true, false, Result, Ok, Err, refl, ap, subst}
+use Rattle.std.proofs.Common.{◌≡◌, ◌⊎◌, inl, inr, ℕ, List, true, false, Result, Ok, Err, ap, subst}
 use Rattle.dav_io.specs.declared.fields.Field.{Field}
 use Rattle.dav_core.specs.declared.dav_error.DavError.{DavError}
 use Rattle.dav_core.specs.declared.dav_error.DavError.TheVariants as dav
@@ -7,19 +7,21 @@ use Rattle.dav_core.specs.declared.method.DavMethod.{DavMethod}
 use Rattle.dav_core.specs.declared.method.DavMethod.TheVariants.{Copy, Delete, MkAddressbook, MkCalendar, MkCol, Move, Put}
 use Rattle.dav_core.specs.Statuses.{lacks_memory}
 use Rattle.dav_model.specs.declared.outcome.Outcome.{Outcome}
+use Rattle.dav_model.specs.Calls.{AsksUnlessKnown, AtMostUnlessKnown, calls_to_send}
 use Rattle.dav_model.specs.Conditions.{Fields}
 use Rattle.dav_model.specs.Due.{Query}
-use Rattle.dav_model.specs.Head.{Reply}
+use Rattle.dav_model.specs.Head.{Reply, is_set, is_well_known}
 use Rattle.dav_store.specs.Bodies.{BodyState}
 use Rattle.dav_methods.specs.Lines.{Given as GivenBy}
+use Rattle.dav_get.specs.Calls.{fields_given, status_given}
 use Rattle.dav_get.specs.Heard.{Heard}
 use Rattle.dav_get.specs.Table.{Given}
 use Rattle.dav_get.specs.Told.{IsRightFor}
 use Rattle.dav_config.specs.declared.finding.Found.{Found}
 use Rattle.dav_config.specs.Handling.{GivesOver, Served}
 use Rattle.dav_config.specs.Responses.{IsBare, Responded, Responds, SaysHead}
-use Rattle.dav_config.specs.Writing.{ByMethod, Order, Tells, WritesOver}
-use Rattle.dav_config.specs.Finding.{Brought, ByTable, FindsAt, FindsWritten, IsAlone, IsFoundFor, IsFoundOf, Says, SaysBody, behind}
+use Rattle.dav_config.specs.Writing.{Brought, ByTable, Order, Tells, WritesOver, behind}
+use Rattle.dav_config.specs.Finding.{FindsAt, FindsWritten, IsAlone, IsFoundFor, IsFoundOf, Says, SaysBody}
 use Rattle.http.specs.Response.{head_of}
 
 says_as : {F : Type 0} (status : ℕ) (fields : List Field) (found : Found F) (r : Responded F) → found.outcome.status ≡ status → found.outcome.fields ≡ fields → Says found r
@@ -67,6 +69,11 @@ module _ {S C F L E : Type 0} (served : Served S C F L E) (c : C) (s t : S) (fou
           sound = at.gives.sound;
           heard = had at.given (Heard served.view served.lists q c s at.given t) was at.gives.heard;
           right = λ looked opened listed shows. had at.given (IsRightFor served.view q looked opened listed s at.given t) was (at.gives.right looked opened listed shows);
+          asks = λ calls some few. had at.given (AsksUnlessKnown calls (is_well_known q.settings q.method q.path) (is_set q.settings.redirect) (status_given at.given) (fields_given q.fields at.given)
+              (served.view.state s).asked (served.view.state t).asked) was (at.gives.asks calls some few);
+          bounded = λ each most. had at.given (AtMostUnlessKnown (calls_to_send each (is_set q.settings.redirect)) (is_well_known q.settings q.method q.path) (fields_given q.fields at.given)
+              (served.view.state s).asked (served.view.state t).asked) was (at.gives.bounded each most);
+          leads = at.gives.leads;
           life = at.gives.life;
           most = at.gives.most;
           loan = loan;
@@ -74,21 +81,30 @@ module _ {S C F L E : Type 0} (served : Served S C F L E) (c : C) (s t : S) (fou
         responds = responds_found q.fields at.given found r at.found says;
       }
 
-  -- the table by method, where the body is behind a reader
-  table_read : (method : DavMethod) (o : Order) (b : BodyState) (given : GivenBy) (n : Brought) → ByTable served.view served.lists served.writes c method o (behind b) s given t n
-      → (k : BodyState) × (n ≡ behind k) × ByMethod served.view served.lists served.writes c method o b s given t k
-  table_read Put o b given n x = x
-  table_read MkCol o b given n x = (b, x.1, (x.0, refl))
-  table_read MkCalendar o b given n x = (b, x.1, (x.0, refl))
-  table_read MkAddressbook o b given n x = (b, x.1, (x.0, refl))
-  table_read Delete o b given n x = (b, x.1, (x.0, refl))
-  table_read Copy o b given n x = (b, x.1, (x.0, refl))
-  table_read Move o b given n x = (b, x.1, (x.0, refl))
-  table_read other o b given n x = absurd x
+  -- a body behind a reader is left behind it
+  table_behind : (method : DavMethod) (o : Order) (b : BodyState) (given : GivenBy) (n : Brought) → ByTable served.view served.lists served.writes c method o (behind b) s given t n
+      → (k : BodyState) × (n ≡ behind k)
+  table_behind Put o b given n x = (x.0, x.1)
+  table_behind MkCol o b given n x = (b, x.1)
+  table_behind MkCalendar o b given n x = (b, x.1)
+  table_behind MkAddressbook o b given n x = (b, x.1)
+  table_behind Delete o b given n x = (b, x.1)
+  table_behind Copy o b given n x = (b, x.1)
+  table_behind Move o b given n x = (b, x.1)
+  table_behind other o b given n x = absurd x
 
   -- a method that writes
   pub writes_over : (o : Order) (b : BodyState) (n : Brought) → FindsWritten served o c (behind b) s (Ok found) t n → served.view.loan t ≡ served.view.loan s → Says found r
       → (k : BodyState) × (n ≡ behind k) × WritesOver served.view served.lists served.writes c o b s r t k
   writes_over o b n w loan says =
-      let read = table_read o.method o b w.given n w.table in
-      (read.0, read.1, record { given = w.given; table = read.2; tells = tells_found o.fields w.given found r w.found says; keeps = w.keeps; loan = loan })
+      let left = table_behind o.method o b w.given n w.table in (
+        left.0,
+        left.1,
+        record {
+          given = w.given;
+          table = subst (ByTable served.view served.lists served.writes c o.method o (behind b) s w.given t) left.1 w.table;
+          tells = tells_found o.fields w.given found r w.found says;
+          keeps = w.keeps;
+          loan = loan;
+        },
+      )

@@ -14,7 +14,8 @@ use Rattle.dav_core.specs.declared.dav_error.DavError.{DavError}
 use Rattle.dav_core.specs.Statuses.{closes, lacks_memory, status_of}
 use Rattle.dav_model.specs.Head.{refusal}
 use Rattle.dav_config.specs.declared.finding.Found.{Found}
-use Rattle.dav_config.specs.Finding.{Brought, IsAlone, IsFoundFor, IsGated, SeesBehind, SeesBulk, Sought, whole}
+use Rattle.dav_config.specs.Finding.{IsAlone, IsFoundFor, IsGated, SeesBehind, SeesBulk, Sought}
+use Rattle.dav_config.specs.Writing.{Brought, whole}
 use Rattle.dav_config.proofs.Unstored.{known_parted}
 
 -- A body that was seen behind the gates of its head is weighed.

@@ -12,11 +12,11 @@ use Rattle.dav_store.specs.Bodies.{BodyState}
 use Rattle.dav_config.specs.declared.asked.Content.{Content}
 use Rattle.dav_config.specs.declared.asked.Content.TheVariants.{Whole, Behind}
 use Rattle.dav_config.specs.declared.finding.Found.{Found}
-use Rattle.dav_config.specs.Finding.{AnswersBy, Brought, FindsFor, IsGated, Says, SeesBehind, SeesBulk, behind, brought, loan_in}
+use Rattle.dav_config.specs.Finding.{AnswersBy, FindsFor, IsGated, Says, SeesBehind, SeesBulk, brought, loan_in}
 use Rattle.dav_config.specs.Handling.{AnswersTo, Asking, Handles, HandlesAll, IsTarget, ReadsBehind, ReadsUnless, Served, Sides}
 use Rattle.dav_config.specs.Owning.{AnswersAlone, AnswersOver, SaysAlone, sought_of}
 use Rattle.dav_config.specs.Responses.{IsBare, Responded}
-use Rattle.dav_config.specs.Writing.{order}
+use Rattle.dav_config.specs.Writing.{Brought, behind, order}
 use Rattle.dav_config.proofs.AsBefore.{gives_over, says_bare, writes_over}
 use Rattle.dav_config.proofs.Failures.{fails_for}
 

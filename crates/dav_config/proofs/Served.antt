@@ -14,7 +14,8 @@ use Rattle.dav_get.specs.Table.{Given}
 use Rattle.dav_config.specs.declared.finding.Found.{Found}
 use Rattle.dav_config.specs.Handling.{Served}
 use Rattle.dav_config.specs.Responses.{Responded}
-use Rattle.dav_config.specs.Finding.{AnswersBy, Brought, EndsFound, FindsFor, IsFoundFor, IsFoundOf, IsHeldIn, Says, Serves, Sought, StarvesBy, settled}
+use Rattle.dav_config.specs.Finding.{AnswersBy, EndsFound, FindsFor, IsFoundFor, IsFoundOf, IsHeldIn, Says, Serves, Sought, StarvesBy, settled}
+use Rattle.dav_config.specs.Writing.{Brought}
 
 none_held : {F : Type 0} (files : FileView F) (s : DiskState) (body : Option (GetBody F)) → body ≡ None → IsHeldIn files s body
 none_held files s body e = subst (IsHeldIn files s) (sym e) tt

@@ -17,10 +17,10 @@ use Rattle.dav_get.specs.Table.{Given}
 use Rattle.dav_config.specs.declared.asked.Content.{Content}
 use Rattle.dav_config.specs.declared.asked.Content.TheVariants.{Behind}
 use Rattle.dav_config.specs.declared.finding.Found.{Found}
-use Rattle.dav_config.specs.Finding.{Brought, EndsFound, FindsFor, IsFoundFor, IsFoundOf, Serves, Undone, behind, brought, loan_in}
+use Rattle.dav_config.specs.Finding.{EndsFound, FindsFor, IsFoundFor, IsFoundOf, Serves, Undone, brought, loan_in}
 use Rattle.dav_config.specs.Handling.{Asking, IsWritten, Served, Stays}
 use Rattle.dav_config.specs.Owning.{StarvesAll, StarvesOver, sought_of}
-use Rattle.dav_config.specs.Writing.{KeepsUnless, asks_to_write}
+use Rattle.dav_config.specs.Writing.{Brought, KeepsUnless, asks_to_write, behind}
 use Rattle.dav_config.proofs.Gated.{gated_parted}
 use Rattle.dav_config.proofs.Giving.{undone}
 use Rattle.dav_config.proofs.Owned.{is_behind}

@@ -15,9 +15,9 @@ use Rattle.dav_model.specs.declared.target.Target.TheVariants.{At, Methods, Refu
 use Rattle.dav_model.specs.Conditions.{Fields, writes}
 use Rattle.dav_model.specs.Gates.{Bulk, none, some, much, broken, asked, in_allowed, is_allowed, is_built, of_body, or_refused, takes_much, takes_some, unless, weighed, with_method, with_path}
 use Rattle.dav_store.specs.Bodies.{BodyState}
-use Rattle.dav_config.specs.Finding.{Brought, IsGated, Sought}
+use Rattle.dav_config.specs.Finding.{IsGated, Sought}
 use Rattle.dav_config.specs.Handling.{Asking, IsAt, IsTarget, IsWritten}
-use Rattle.dav_config.specs.Writing.{asks_to_write, is_of_writing}
+use Rattle.dav_config.specs.Writing.{Brought, asks_to_write, is_of_writing}
 
 -- a gate that lets pass, or refuses
 abbrev Refuses : Option Target → Type 0

@@ -8,8 +8,6 @@ use Rattle.dav_io.specs.declared.failure.NoMemory.{NoMemory}
 use Rattle.dav_core.specs.declared.dav_error.DavError.TheVariants as dav
 use Rattle.dav_core.specs.declared.error.FsError.{FsError}
 use Rattle.dav_core.specs.declared.member.Member.{Member}
-use Rattle.dav_core.specs.declared.method.DavMethod.{DavMethod}
-use Rattle.dav_core.specs.declared.method.DavMethod.TheVariants.{Copy, Delete, MkAddressbook, MkCalendar, MkCol, Move, Put}
 use Rattle.dav_core.specs.DavPath.{WebPath}
 use Rattle.dav_core.specs.Disk.{DiskState}
 use Rattle.dav_core.specs.Statuses.{closes, lacks_memory, status_of}
@@ -29,13 +27,7 @@ use Rattle.dav_store.specs.FileView.{FileView}
 use Rattle.dav_store.specs.Frames.{KeepsOpen}
 use Rattle.dav_store.specs.Leads.{LeadsOn}
 use Rattle.dav_store.specs.Standing.{Standing}
-use Rattle.dav_store.specs.View.{View, Listings}
-use Rattle.dav_walks.specs.Pouring.{Writes}
-use Rattle.dav_methods.specs.Carrying.{CopiesTo, MovesTo}
-use Rattle.dav_methods.specs.Deleting.{Deletes}
 use Rattle.dav_methods.specs.Lines.{Given as GivenBy}
-use Rattle.dav_methods.specs.Putting.{Puts, PutsWhole}
-use Rattle.dav_methods.specs.Table.{MkCalendars, MkCols, Run}
 use Rattle.dav_body.specs.declared.body.BodyType.TheVariants.{AsyncStream as Stream, Empty}
 use Rattle.dav_get.specs.declared.body.GetBody.{GetBody}
 use Rattle.dav_get.specs.Bodies.{Closes, IsHeld}
@@ -52,7 +44,7 @@ use Rattle.dav_config.specs.declared.finding.Found.{Found}
 use Rattle.dav_config.specs.Handling.{Served, SetsMoment}
 use Rattle.dav_config.specs.Reading.{ReadsBulk}
 use Rattle.dav_config.specs.Responses.{Responded, SaysHead, inner_of}
-use Rattle.dav_config.specs.Writing.{Order, order}
+use Rattle.dav_config.specs.Writing.{Brought, ByTable, Order, behind, order, whole}
 use Rattle.http.specs.Response.{head_of as response_head}
 
 -- ---- what is asked
@@ -73,11 +65,7 @@ request_of asked = record {
   now = asked.now;
 }
 
--- the body of a request: its bytes, or what is seen of its reader
-pub data Brought : Type 0 where
-  whole : List ℕ → Brought
-  behind : BodyState → Brought
-
+-- the body of a request, by what is seen of its reader
 abbrev pub brought : {B : Type 0} → (B → BodyState) → Content B → Brought
 brought state (Whole bytes) = whole bytes.now
 brought state (Behind body) = behind (state body)
@@ -133,29 +121,6 @@ IsFoundOf fields (Ok outcome) (Err x) = ⊥
 IsFoundOf fields (Err e) (Ok found) =
     (lacks_memory e ≡ false) × IsAlone (refusal fields (status_of e) (closes e)) found
 IsFoundOf fields (Err e) (Err x) = Unit {0}
-
-module _ {S C F : Type 0} (view : View S C F) (writes : Writes F) (c : C) where
-  -- A PUT of bytes in memory, or of what a reader gives.
-  abbrev pub PutsBrought : WebPath → Fields → Brought → S → GivenBy → S → Brought → Type 0
-  PutsBrought path fields (whole bytes) s r t new = PutsWhole view writes c path fields bytes s r t × (new ≡ whole bytes)
-  PutsBrought path fields (behind b) s r t new = (n : BodyState) × (new ≡ behind n)
-      × Puts view writes c path fields b s r t n
-
--- The body isn't asked.
-abbrev pub Unasked : {S : Type 0} → Run S → Brought → S → GivenBy → S → Brought → Type 0
-Unasked run b s r t new = run s r t × (new ≡ b)
-
-module _ {S C F L E : Type 0} (view : View S C F) (lists : Listings S C L E) (writes : Writes F) (c : C) where
-  -- the table of a method that writes, whichever way its body comes
-  abbrev pub ByTable : DavMethod → Order → Brought → S → GivenBy → S → Brought → Type 0
-  ByTable Put o b s r t n = PutsBrought view writes c o.path o.fields b s r t n
-  ByTable MkCol o b s r t n = Unasked (MkCols view c o.path o.fields) b s r t n
-  ByTable MkCalendar o b s r t n = Unasked (MkCalendars view c o.path) b s r t n
-  ByTable MkAddressbook o b s r t n = Unasked (MkCalendars view c o.path) b s r t n
-  ByTable Delete o b s r t n = Unasked (Deletes view lists c o.path o.fields) b s r t n
-  ByTable Copy o b s r t n = Unasked (CopiesTo view lists c o.prefix o.path o.fields) b s r t n
-  ByTable Move o b s r t n = Unasked (MovesTo view lists c o.prefix o.path o.fields) b s r t n
-  ByTable other o b s r t n = ⊥
 
 module _ {S C F L E : Type 0} (served : Served S C F L E) where
   -- What a GET or HEAD promises, where memory may have been refused.

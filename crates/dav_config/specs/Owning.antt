@@ -5,7 +5,8 @@ use Rattle.dav_model.specs.declared.target.Target.TheVariants.{Methods, Refused}
 use Rattle.dav_model.specs.Allowing.{allowing}
 use Rattle.dav_model.specs.Head.{refusal}
 use Rattle.dav_store.specs.declared.body_reader.BodyReader.{Ghosts as ReaderGhosts}
-use Rattle.dav_config.specs.Finding.{AnswersBy, Brought, IsGated, Sought, StarvesBy, behind}
+use Rattle.dav_config.specs.Finding.{AnswersBy, IsGated, Sought, StarvesBy}
+use Rattle.dav_config.specs.Writing.{Brought, behind}
 use Rattle.dav_config.specs.Handling.{Asking, Served}
 use Rattle.dav_config.specs.Responses.{IsBare, Responded}
 

@@ -32,8 +32,8 @@ use Rattle.dav_get.specs.Calls.{fields_given, status_given}
 use Rattle.dav_get.specs.Lives.{OpensOnly}
 use Rattle.dav_get.specs.Table.{Given}
 use Rattle.dav_config.specs.Handling.{Served}
-use Rattle.dav_config.specs.Writing.{Order, order}
-use Rattle.dav_config.specs.Finding.{Brought, ByTable, FindsFor, FindsWritten, GivesOr, IsAlone, IsFoundFor, IsFoundOf, IsGated, SeesBehind, Serves, Sought, whole}
+use Rattle.dav_config.specs.Writing.{Brought, ByTable, Order, order, whole}
+use Rattle.dav_config.specs.Finding.{FindsFor, FindsWritten, GivesOr, IsAlone, IsFoundFor, IsFoundOf, IsGated, SeesBehind, Serves, Sought}
 use Rattle.dav_config.proofs.Gated.{gated_whole}
 use Rattle.dav_handler.specs.By.{By, Over}
 use Rattle.dav_handler.specs.Found.{Answers, Finds, Found, GivesFound, HoldsOnly, Said, Starves}
