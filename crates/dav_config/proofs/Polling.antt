@@ -9,8 +9,8 @@ use Rattle.dav_model.specs.declared.target.Target.TheVariants.{At, Methods, Refu
 use Rattle.dav_body.specs.Bodies.{MayPoll}
 use Rattle.dav_body.specs.declared.body.BodyType.{BodyType}
 use Rattle.dav_body.specs.declared.body.BodyType.TheVariants.{Empty}
-use Rattle.dav_store.specs.FileView.{FileView, SameFiles}
 use Rattle.dav_store.specs.declared.body_reader.BodyReader.{Ghosts as ReaderGhosts}
+use Rattle.dav_store.specs.FileView.{FileView, SameFiles}
 use Rattle.dav_get.specs.declared.body.GetBody.{GetBody}
 use Rattle.dav_get.specs.Bodies.{IsHeld}
 use Rattle.dav_get.specs.Lives.{OpenOnlyHeld}
@@ -76,19 +76,12 @@ module _ {S C F L E D : Type 0} (served : Served S C F L E) (files : FileView F)
     answer_may (At method path) asking old new r answers = passes_may (query asking.settings asking.head.headers method path) asking old.store new.store r answers.0
     answer_may (Writes method path) asking old new r performs = bare_may r new.store (told_empty asking.head.headers performs.writes.given r performs.writes.tells)
 
-    pub handled_may : (asking : Asking C) (old new : Sides S) (r : Responded F) → Handles served asking old r new → IfSome new.store (λ s. May (inner_of r) (inside s))
+    handled_may : (asking : Asking C) (old new : Sides S) (r : Responded F) → Handles served asking old r new → IfSome new.store (λ s. May (inner_of r) (inside s))
     handled_may asking old new r handles = answer_may handles.target asking (record old { body = handles.between }) new r handles.answers
 
     -- the same where an answer was refused
-    pub handled_may_where : {X : Type 0} (result : Result (Responded F) X) (asking : Asking C) (old new : Sides S)
-        → IfOk result (λ r. Handles served asking old r new) → IfOk result (λ r. IfSome new.store (λ s. May (inner_of r) (inside s)))
-    handled_may_where (Ok r) asking old new handles = handled_may asking old new r handles
-    handled_may_where (Err e) asking old new handles = tt
-
-module _ {S C F L E B : Type 0} (served : Served S C F L E) (reader : ReaderGhosts B) where
-  -- the reader was let go of
-  pub let_go : {X : Type 0} (result : Result (Responded F) X) (asking : Asking C) (old new : Option S) (body after : B) → reader.loan after ≡ reader.loan body
-      → IfOk result (λ r. Handles served asking (record { store = old; body = reader.state body }) r (record { store = new; body = reader.state after }))
-      → IfOk result (λ r. HandlesAll served reader asking old body r new)
-  let_go (Ok r) asking old new body after loan handles = (after, loan, handles)
-  let_go (Err e) asking old new body after loan handles = tt
+    pub handled_may_where : {B X : Type 0} (result : Result (Responded F) X) (reader : ReaderGhosts B) (asking : Asking C) (old new : Option S) (body : B)
+        → IfOk result (λ r. HandlesAll served reader asking old body r new) → IfOk result (λ r. IfSome new (λ s. May (inner_of r) (inside s)))
+    handled_may_where (Ok r) reader asking old new body (after, loan, handles) =
+        handled_may asking (record { store = old; body = reader.state body }) (record { store = new; body = reader.state after }) r handles
+    handled_may_where (Err e) reader asking old new body handles = tt

@@ -1,6 +1,5 @@
 -- Without a store nothing passes the gates.
-use Rattle.std.proofs.Common.{◌≡◌, ◌||◌, ◌&&◌, ◌∙◌, ℕ, Bool, true, false, cond, Option, None, Some, Result, Ok, Err, refl, ap, subst, sym}
-use Rattle.std.specs.Prelude.{IsSome}
+use Rattle.std.proofs.Common.{◌≡◌, ◌||◌, ◌&&◌, ℕ, Bool, true, false, cond, Option, None, Some, Result, Ok, Err, refl, subst, sym}
 use Rattle.http.specs.declared.request.Parts.{Parts}
 use Rattle.http_uri.specs.Uri.{uri_path}
 use Rattle.dav_core.specs.declared.dav_error.DavError.{DavError}
@@ -14,10 +13,11 @@ use Rattle.dav_model.specs.declared.settings.Settings.{Settings}
 use Rattle.dav_model.specs.declared.target.Target.{Target}
 use Rattle.dav_model.specs.declared.target.Target.TheVariants.{At, Methods, Refused, Writes}
 use Rattle.dav_model.specs.Conditions.{Fields, writes}
-use Rattle.dav_model.specs.Gates.{Bulk, none, some, much, broken, admitted, asked, in_allowed, is_allowed, is_built, of_body, or_refused, takes_much, takes_some, unless, weighed, with_method, with_path}
+use Rattle.dav_model.specs.Gates.{Bulk, none, some, much, broken, asked, in_allowed, is_allowed, is_built, of_body, or_refused, takes_much, takes_some, unless, weighed, with_method, with_path}
 use Rattle.dav_store.specs.Bodies.{BodyState}
-use Rattle.dav_config.specs.Handling.{Asking, IsAt, IsTarget, IsWritten, ReadsBehind, ReadsUnless, is_stored}
-use Rattle.dav_config.specs.Writing.{asks_to_write, is_of_writing}
+use Rattle.dav_config.specs.Finding.{IsGated, Sought}
+use Rattle.dav_config.specs.Handling.{Asking, IsAt, IsTarget, IsWritten}
+use Rattle.dav_config.specs.Writing.{Brought, asks_to_write, is_of_writing}
 
 -- a gate that lets pass, or refuses
 abbrev Refuses : Option Target → Type 0
@@ -61,11 +61,8 @@ known_without settings head bulk (Err e) at = at
 known_without settings head bulk (Ok method) at =
     allowed_without head.headers bulk method (parsed (uri_path head.uri) settings.prefix) (in_allowed settings.allow method) (same_method method Options) refl at
 
--- What passed the gates has a store.
-pub at_stored : {S C : Type 0} (asking : Asking C) (void : S → Bool) (store : Option S) (old new : BodyState) (target : Target)
-    → IsTarget asking (is_stored void store) old target new → IsAt target → IsSome store
-at_stored asking void (Some s) old new target asks at = refl
-at_stored asking void None old new target asks at = absurd (known_without asking.settings asking.head asks.bulk (method_of asking.head.method) (subst IsAt asks.gated at))
+pub gated_alone : {C : Type 0} (sought : Sought C) (old new : Brought) (target : Target) → IsGated sought false old target new → IsAt target → ⊥
+gated_alone sought old new target is at = known_without sought.settings sought.head is.bulk (method_of sought.head.method) (subst IsAt is.gated at)
 
 -- ---- what is asked for by writing
 
@@ -135,13 +132,3 @@ pub target_parted : {C : Type 0} (asking : Asking C) (stored : Bool) (old new : 
     → IsWritten target asking.head
 target_parted asking stored old new target asks =
     subst (λ (x : Target). IsWritten x asking.head) (sym asks.gated) (known_parted asking.head asking.settings stored asks.bulk (method_of asking.head.method) refl)
-
--- A body that was read behind the gates of its head is weighed.
-pub weighed_target : {C : Type 0} (asking : Asking C) (stored : Bool) (old new : BodyState) (bulk : Bulk) (method : DavMethod) (path : WebPath) (target : Target)
-    → At method path ≡ admitted asking.settings stored asking.head → ReadsUnless (takes_much method) old bulk new
-    → target ≡ weighed asking.head.headers bulk (At method path) → IsTarget asking stored old target new
-weighed_target asking stored old new bulk method path target passed reads e = record {
-  bulk = bulk;
-  reads = subst (λ (x : Target). ReadsBehind x old bulk new) passed reads;
-  gated = e ∙ ap (weighed asking.head.headers bulk) passed;
-}

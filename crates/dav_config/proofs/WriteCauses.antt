@@ -45,7 +45,7 @@ use Rattle.dav_methods.specs.Table.{MkCalendars, MkCols, Next, Run}
 use Rattle.dav_walks.proofs.calls.ListingsLead.{listed_on, unread_on}
 use Rattle.dav_methods.proofs.tables.TablesKept.{CallsKeep, CarryJudges, Fits, Gives, Judges, Keeps, Left, carry_keeps, delete_keeps, may_put_keeps, mkcalendar_keeps, mkcol_keeps}
 use Rattle.dav_config.specs.Writing as one
-use Rattle.dav_config.specs.Writing.{ByMethod, Order, RefusedOnWay, RefusesOne}
+use Rattle.dav_config.specs.Writing.{ByTable, Order, RefusedOnWay, RefusesOne, behind}
 
 -- ---- statuses
 
@@ -425,8 +425,10 @@ module _ {S C F L E : Type 0} (view : View S C F) (lists : Listings S C L E) (wr
   came_cause s t (Err e) b n came fails = inl (came fails)
 
   -- 500 is given only where a call was refused with a failure, or the reader failed.
-  pub written_cause : (method : DavMethod) (o : Order) (b n : BodyState) (s t : S) (r : Given) → ByMethod view lists writes c method o b s r t n → Fails r → PutCause s b t n
-  written_cause Put o b n s t r table fails = put_cause s t r o.path o.fields b n table fails
+  pub written_cause : (method : DavMethod) (o : Order) (b n : BodyState) (s t : S) (r : Given) → ByTable view lists writes c method o (behind b) s r t (behind n) → Fails r → PutCause s b t n
+  written_cause Put o b n s t r table fails =
+      let same : table.0 ≡ n = cc in
+      put_cause s t r o.path o.fields b n (subst (Puts view writes c o.path o.fields b s r t) same table.2) fails
   written_cause MkCol o b n s t r table fails = came_cause s t r b n (mkcol_came s t r o.path o.fields table.0) fails
   written_cause MkCalendar o b n s t r table fails = came_cause s t r b n (mkcalendar_came s t r o.path table.0) fails
   written_cause MkAddressbook o b n s t r table fails = came_cause s t r b n (mkcalendar_came s t r o.path table.0) fails

@@ -1,5 +1,5 @@
 -- What a handler answers a request with, over any store.
-use Rattle.std.specs.Prelude.{◌≡◌, ◌⊎◌, ℕ, Bool, true, false, not, List, Option, None, Some, Result}
+use Rattle.std.specs.Prelude.{◌≡◌, ◌⊎◌, ◌<◌, ℕ, Bool, true, false, not, List, Option, None, Some, Result}
 use Rattle.dav_io.specs.declared.clock.Moment.{Moment}
 use Rattle.dav_io.specs.Counts.{Rose}
 use Rattle.http.specs.declared.request.Parts.{Parts}
@@ -12,18 +12,21 @@ use Rattle.dav_model.specs.declared.target.Target.{Target}
 use Rattle.dav_model.specs.declared.target.Target.TheVariants.{At, Methods, Refused, Writes}
 use Rattle.dav_model.specs.Allowing.{allowing}
 use Rattle.dav_model.specs.Announced.{HasSoundBody, IsFramed}
+use Rattle.dav_model.specs.Calls.{AsksUnlessKnown, AtMostUnlessKnown, calls_to_send}
 use Rattle.dav_model.specs.Conditions.{writes as is_writing}
 use Rattle.dav_model.specs.Due.{Query, query}
 use Rattle.dav_model.specs.Gates.{Bulk, none, admitted, gates, takes_much}
-use Rattle.dav_model.specs.Head.{refusal}
+use Rattle.dav_model.specs.Head.{is_set, is_well_known, refusal}
 use Rattle.dav_model.specs.Bodies.{read_size_of}
 use Rattle.dav_store.specs.declared.body_reader.BodyReader.{Ghosts as ReaderGhosts}
 use Rattle.dav_store.specs.declared.file.DavFile.{Ghosts as FileGhosts}
 use Rattle.dav_store.specs.declared.guarded.GuardedFileSystem.{Ghosts as StoreGhosts}
 use Rattle.dav_store.specs.Bodies.{BodyState}
+use Rattle.dav_store.specs.Leads.{LeadsOn}
 use Rattle.dav_store.specs.Standing.{Standing}
 use Rattle.dav_store.specs.View.{View, Listings}
 use Rattle.dav_walks.specs.Pouring.{Writes as FileWritesOf}
+use Rattle.dav_get.specs.Calls.{AsksAtMostFor, AsksFor, fields_given, status_given}
 use Rattle.dav_get.specs.Heard.{Heard}
 use Rattle.dav_get.specs.Lives.{HasMost, OpenOnlyHeld}
 use Rattle.dav_get.specs.Right.{reply_at}
@@ -33,8 +36,6 @@ use Rattle.dav_config.specs.Failing.{FailsOver}
 use Rattle.dav_config.specs.Reading.{ReadsBulk}
 use Rattle.dav_config.specs.Responses.{IsBare, Responded, Responds}
 use Rattle.dav_config.specs.Writing.{KeepsUnless, Order, RefusedIn, WritesOver, asks_to_write, order}
-use Rattle.http.specs.Request.{head_of as asked_head}
-use Rattle.dav_config.specs.declared.asked.Asked.{Asked}
 
 -- ---- a store's meanings in one value
 
@@ -126,6 +127,19 @@ module _ {S C F L E : Type 0} (served : Served S C F L E) where
     pub right : (looked opened : WebPath → Result Standing FsError) (listed : WebPath → Result (List Member) FsError)
         → ShowsFor served.view served.lists s c q looked opened listed
         → IsRightFor served.view q looked opened listed s given t
+    -- how often the disk was asked
+    pub asks : (calls : ℕ) → 0 < calls
+        → (is_well_known q.settings q.method q.path ≡ false → AsksFor served.view served.lists q calls
+        (served.view.state t).faults s)
+        → AsksUnlessKnown calls (is_well_known q.settings q.method q.path) (is_set q.settings.redirect)
+        (status_given given) (fields_given q.fields given) (served.view.state s).asked (served.view.state t).asked
+    pub bounded : (each : ℕ) → (is_well_known q.settings q.method q.path ≡ false
+        → AsksAtMostFor served.view served.lists q each s)
+        → AtMostUnlessKnown (calls_to_send each (is_set q.settings.redirect))
+        (is_well_known q.settings q.method q.path) (fields_given q.fields given)
+        (served.view.state s).asked (served.view.state t).asked
+    -- by which calls
+    pub leads : LeadsOn served.view served.lists c s t
     -- nothing is open that wasn't, but the body's file
     pub life : OpenOnlyHeld served.view s given t
     pub most : HasMost (read_size_of q.settings.read_buf_size) given
@@ -213,13 +227,3 @@ module _ {S C F L E : Type 0} (served : Served S C F L E) where
   HandlesAll {B} reader asking old body r new = (after : B) × (reader.loan after ≡ reader.loan body)
       × Handles asking (record { store = old; body = reader.state body }) r
       (record { store = new; body = reader.state after })
-
--- ---- what is asked of a handler, behind its references
-
-abbrev pub asking_of : {C : Type 0} → Asked C → Asking C
-asking_of asked = record {
-  settings = asked.settings.now;
-  head = asked_head asked.head.now;
-  credentials = asked.credentials.now;
-  now = asked.now;
-}

@@ -5,4 +5,6 @@ pub mod Responses
 pub mod Failing
 pub mod Writing
 pub mod Handling
+pub mod Finding
+pub mod Owning
 pub mod Given

@@ -1,76 +1,94 @@
-// A request over a store: its gates, its body, and its answer.
+// A request over a store, or without one: what it finds, and its answer.
 ghost use Rattle.std.specs.Prelude.{◌≡◌, IfOk, IfSome, OnErr};
-ghost use Rattle.dav_config.specs.Handling.{Handles, HandlesAll, IsTarget, ReadsUnless, Stays, asking, the_served, asking_of};
-ghost use Rattle.dav_config.specs.Reading.{seen_as};
-ghost use Rattle.dav_model.specs.Gates.{takes_much as the_takes_much};
-ghost use Rattle.dav_config.specs.Responses.{inner_of};
+ghost use Rattle.http.specs.Request.{body_of, head_of};
 ghost use Rattle.dav_body.specs.Bodies.{MayPoll};
 ghost use Rattle.dav_get.specs.Bodies.{IsHeld};
-ghost use Rattle.http.specs.Request.{body_of, head_of};
+ghost use Rattle.dav_config.specs.Finding.{AnswersBy, StarvesBy, brought, loan_in, request_of};
+ghost use Rattle.dav_config.specs.Handling.{HandlesAll, IsAt, Stays, asking, the_served};
+ghost use Rattle.dav_config.specs.Owning.{AnswersAlone, AnswersOver, SaysAlone, StarvesAll, StarvesOver};
+ghost use Rattle.dav_config.specs.Responses.{inner_of};
 
-use crate::answering::{Answered, answer, is_stored};
-use crate::asked::Asked;
-use crate::bulk::{BodyBulk, read_bulk};
-use crate::gates::{admitted, takes_much, weighed};
-use dav_core::DavMethod;
-use dav_io::{Moment, NoMemory};
+use crate::answering::{Answered, bare, refusal, respond};
+use crate::asked::{Asked, Content};
+use crate::finding::{find, gate};
+use dav_io::Moment;
+use dav_methods::options;
 use dav_model::{Settings, Target};
 use dav_store::{BodyReader, GuardedFileSystem};
 use http::Request;
 use std::alloc::Global;
 
-// What the gates see of a body: nothing where its method reads it.
-fn bulk_behind<B: BodyReader>(method: DavMethod, body: &mut B) -> BodyBulk
-    ensures reads { ReadsUnless (the_takes_much method) (B.state body.old) (seen_as result) (B.state body.new) }
-    ensures loan { B.loan body.new ≡ B.loan body.old }
-{
-    if takes_much(method) {
-        return BodyBulk::Nothing;
-    }
-    read_bulk(body)
-}
-
-// What a request asks for. Its body is read where the gates of its head let it pass.
-fn target<B: BodyReader, C>(
+// Answers a request over a store.
+fn handle_store<S: GuardedFileSystem<C>, C, B: BodyReader, X>(
     alloc: Global,
-    asked: &Asked<'_, C>,
-    stored: bool,
-    body: &mut B,
-) -> Result<Target, NoMemory>
-    ensures done { IfOk result (λ target. IsTarget (asking_of asked.entry.now) stored (B.state body.old) target
-        (B.state body.new)) }
-    ensures loan { B.loan body.new ≡ B.loan body.old }
-{
-    match admitted(alloc, asked.settings, stored, asked.head) {
-        Ok(Target::At { method, path }) => {
-            let bulk = bulk_behind(method, body);
-            Ok(weighed(asked.head.headers(), bulk, Target::At { method, path }))
-        }
-        Ok(Target::Methods) => Ok(Target::Methods),
-        Ok(Target::Writes { method, path }) => Ok(Target::Writes { method, path }),
-        Ok(Target::Refused { status, close }) => Ok(Target::Refused { status, close }),
-        Err(error) => Err(error),
-    }
-}
-
-/// Answers a request over a store, or without one.
-pub fn handle_over<S: GuardedFileSystem<C>, C, B: BodyReader>(
-    alloc: Global,
-    asked: &Asked<'_, C>,
-    store: &mut Option<S>,
-    body: &mut B,
+    asked: &Asked<'_, C, X>,
+    fs: &mut S,
+    content: &mut Content<'_, B>,
 ) -> Answered<S::File>
-    ensures done { IfOk result (λ r. Handles (the_served S.GuardedFileSystem S.File.DavFile) (asking_of asked.entry.now)
-        (record { store = store.old; body = B.state body.old }) r
-        (record { store = store.new; body = B.state body.new })) }
-    ensures memory { OnErr result
-        (Stays (the_served S.GuardedFileSystem S.File.DavFile) (asking_of asked.entry.now) store.old store.new) }
-    ensures loan { B.loan body.new ≡ B.loan body.old }
+    ensures done { IfOk result (λ r. AnswersBy (the_served S.GuardedFileSystem S.File.DavFile)
+        (request_of asked.entry.now) (brought B.state content.old) fs.old r fs.new (brought B.state content.new)) }
+    ensures memory { OnErr result (StarvesBy (the_served S.GuardedFileSystem S.File.DavFile)
+        (request_of asked.entry.now) (brought B.state content.old) fs.old fs.new (brought B.state content.new)) }
+    ensures loan { S.view.loan fs.new ≡ S.view.loan fs.old }
+    ensures content_loan { loan_in B.loan content.new ≡ loan_in B.loan content.old }
 {
-    let stored = is_stored(store);
-    match target(alloc, asked, stored, body) {
-        Ok(target) => answer(alloc, asked, store, body, &target),
+    match find(alloc, asked, fs, content) {
+        Ok(found) => respond(alloc, fs, found),
         Err(error) => Err(error),
+    }
+}
+
+// What the gates answer where there is no store: a refusal, or what OPTIONS is told.
+fn say_alone<F, C, X>(alloc: Global, asked: &Asked<'_, C, X>, target: &Target) -> Answered<F>
+    requires { IsAt target.now → ⊥ }
+    ensures { IfOk result (SaysAlone target.now (request_of asked.entry.now)) }
+{
+    match target {
+        Target::Refused { status, close } => refusal(alloc, asked.head.headers(), *status, *close),
+        Target::Methods => match options(alloc, asked.settings.allow, true) {
+            Ok(outcome) => bare(alloc, outcome),
+            Err(error) => Err(error),
+        },
+        Target::At { .. } | Target::Writes { .. } => {
+            unreachable!("without a store nothing passes the gates")
+        }
+    }
+}
+
+// Answers a request without a store.
+fn answer_alone<F, C, B: BodyReader, X>(
+    alloc: Global,
+    asked: &Asked<'_, C, X>,
+    content: &mut Content<'_, B>,
+) -> Answered<F>
+    ensures done { IfOk result (λ r. AnswersAlone (request_of asked.entry.now) (brought B.state content.old) r
+        (brought B.state content.new)) }
+    ensures content_loan { loan_in B.loan content.new ≡ loan_in B.loan content.old }
+{
+    match gate(alloc, asked, false, content) {
+        Ok(target) => say_alone(alloc, asked, &target),
+        Err(error) => Err(error),
+    }
+}
+
+// Answers a request over a store, or without one.
+fn handle_over<S: GuardedFileSystem<C>, C, B: BodyReader, X>(
+    alloc: Global,
+    asked: &Asked<'_, C, X>,
+    store: &mut Option<S>,
+    content: &mut Content<'_, B>,
+) -> Answered<S::File>
+    ensures done { IfOk result (λ r. AnswersOver (the_served S.GuardedFileSystem S.File.DavFile)
+        (request_of asked.entry.now) (brought B.state content.old) store.old r store.new
+        (brought B.state content.new)) }
+    ensures memory { OnErr result (StarvesOver (the_served S.GuardedFileSystem S.File.DavFile)
+        (request_of asked.entry.now) (brought B.state content.old) store.old store.new
+        (brought B.state content.new)) }
+    ensures content_loan { loan_in B.loan content.new ≡ loan_in B.loan content.old }
+{
+    match store {
+        Some(fs) => handle_store(alloc, asked, fs, content),
+        None => answer_alone(alloc, asked, content),
     }
 }
 
@@ -89,15 +107,17 @@ pub fn handle_by<S: GuardedFileSystem<C>, C, B: BodyReader + Drop>(
         (λ s. MayPoll (λ b d. IsHeld S.File.view (S.Disk.state d) b) (inner_of r) (S.inside s))) }
     ensures memory { OnErr result (Stays (the_served S.GuardedFileSystem S.File.DavFile)
         (asking settings.now (head_of req) credentials.now now) store.old store.new) }
+    ensures starves { OnErr result (StarvesAll (the_served S.GuardedFileSystem S.File.DavFile) B.BodyReader
+        (asking settings.now (head_of req) credentials.now now) store.old (body_of req) store.new) }
 {
     let (parts, reader) = req.into_parts();
-    let mut body = reader;
+    let mut content = Content::Behind(reader);
     let head = Request::from_parts(parts, ());
     let asked = Asked {
         settings,
         head: &head,
         credentials,
-        now,
+        now: Some(now),
     };
-    handle_over(alloc, &asked, store, &mut body)
+    handle_over(alloc, &asked, store, &mut content)
 }

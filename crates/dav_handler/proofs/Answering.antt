@@ -44,9 +44,9 @@ use Rattle.dav_get.specs.Bodies.{IsHeld, left_of, is_slice, parts_of}
 use Rattle.dav_get.specs.Lives.{HasMost, OpensOnly}
 use Rattle.dav_get.specs.Right.{IsOfNumber, number_told, or_zero, reply_at}
 use Rattle.dav_get.specs.Table.{Given}
-use Rattle.dav_handler.specs.declared.found.Found.{Found}
 use Rattle.dav_handler.specs.By.{By, Over}
-use Rattle.dav_handler.specs.Found.{Answers, Finds, Gives, HoldsOnly, IsAlone, IsRefusedBy, Said, Stays, reply_of}
+use Rattle.dav_config.specs.Finding.{IsAlone}
+use Rattle.dav_handler.specs.Found.{Answers, Finds, Found, Gives, HoldsOnly, IsRefusedBy, Said, Stays, reply_of}
 use Rattle.dav_handler.specs.Held.{Body, IsOpen, handle_of, number_in, number_seen, parts_in}
 use Rattle.dav_handler.proofs.Frames.{no_slices, texts_any}
 

@@ -33,8 +33,7 @@ use Rattle.dav_store.specs.Frames.{KeepsOpen}
 use Rattle.dav_walks.proofs.calls.KeptOpen.{open_kept}
 use Rattle.dav_get.specs.Bodies.{Closes}
 use Rattle.dav_get.specs.Lives.{OpensOnly}
-use Rattle.dav_handler.specs.declared.found.Found.{Found}
-use Rattle.dav_handler.specs.Found.{Answers, HoldsOnly, Starves, Stays, reply_of, said_in}
+use Rattle.dav_handler.specs.Found.{Answers, Found, HoldsOnly, Starves, Stays, reply_of, said_in}
 use Rattle.dav_handler.specs.By.{By, Over}
 use Rattle.dav_handler.specs.Held.{Body, ClosesBody, IsPlaying, handle_of, held_by, held_in, left_in, parts_in}
 use Rattle.dav_handler.specs.Player.{playing_by}

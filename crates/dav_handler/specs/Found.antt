@@ -1,14 +1,13 @@
 -- What a request finds over a store.
-use Rattle.std.specs.Prelude.{◌≡◌, ℕ, List, [], true, false, Option, None, Some, Result, Ok, Err}
+use Rattle.std.specs.Prelude.{◌≡◌, ℕ, List, [], false, Option, None, Some, Result, Ok, Err}
 use Rattle.http.specs.Request.{body_of}
 use Rattle.dav_io.specs.declared.failure.NoMemory.{NoMemory}
 use Rattle.dav_core.specs.declared.dav_error.DavError.{DavError}
 use Rattle.dav_core.specs.Disk.{DiskState}
 use Rattle.dav_core.specs.Statuses.{closes, lacks_memory, status_of}
 use Rattle.dav_model.specs.declared.target.Target.{Target}
-use Rattle.dav_model.specs.declared.target.Target.TheVariants.{Writes}
 use Rattle.dav_model.specs.Calls.{AsksAtGate, AsksToReply}
-use Rattle.dav_model.specs.Conditions.{Fields, Asked, fields_of, writes}
+use Rattle.dav_model.specs.Conditions.{Fields, Asked, fields_of}
 use Rattle.dav_model.specs.Head.{Reply, refusal}
 use Rattle.dav_model.specs.Bodies.{read_size_of}
 use Rattle.dav_model.specs.Play.{Replies}
@@ -17,14 +16,15 @@ use Rattle.dav_model.specs.Written.{Makes}
 use Rattle.dav_store.specs.Frames.{KeepsOpen}
 use Rattle.dav_get.specs.Bodies.{left_of}
 use Rattle.dav_get.specs.Lives.{OpensOnly}
-use Rattle.dav_handler.specs.declared.found.Found.{Found}
+use Rattle.dav_local.specs.declared.file.LocalFsFile.{LocalFsFile}
+use Rattle.dav_config.specs.declared.finding.Found.{Found as FoundOver}
+use Rattle.dav_config.specs.Finding.{IsAlone}
 use Rattle.dav_handler.specs.By.{Over}
 use Rattle.dav_handler.specs.Held.{Body, IsOpen, handle_of, parts_in}
 
--- What is asked for by writing is asked for by a method that writes.
-abbrev pub OnlyWrites : Target → Type 0
-OnlyWrites (Writes method path) = writes method ≡ true
-OnlyWrites other = Unit {0}
+-- what is found over a local store
+abbrev pub Found : Type 0
+Found = FoundOver LocalFsFile
 
 -- the fields and the body of a request
 pub record Said : Type 0 where
@@ -70,12 +70,6 @@ abbrev pub Finds : Over → Said → Target → Result Found NoMemory → Over �
 Finds o said target (Ok found) p = Answers o said target found p
 Finds o said target (Err e) p = Starves o said target p
 
--- An answer without a body.
-pub record IsAlone (reply : Reply) (found : Found) : Type 0 where
-  pub status : found.outcome.status ≡ reply.status
-  pub fields : found.outcome.fields ≡ reply.fields
-  pub body : found.body ≡ None
-
 -- what an error is answered with to a request with these fields; want of memory is none
 pub record IsRefusedBy (fields : Fields) (error : DavError) (found : Found) : Type 0 where
   pub memory : lacks_memory error ≡ false
@@ -85,3 +79,8 @@ pub record IsRefusedBy (fields : Fields) (error : DavError) (found : Found) : Ty
 abbrev pub Gives : DiskState → Body → Option Body → DiskState → Type 0
 Gives s body None t = (t ≡ s) × (left_of body ≡ []) × (body.file ≡ None)
 Gives s body (Some b) t = (t ≡ s) × (b ≡ body)
+
+-- The same of what was found, where it has a body.
+abbrev pub GivesFound : DiskState → Option Body → Option Body → DiskState → Type 0
+GivesFound s None given t = (t ≡ s) × (given ≡ None)
+GivesFound s (Some body) given t = Gives s body given t

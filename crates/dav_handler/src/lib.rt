@@ -3,7 +3,6 @@
 
 mod bodies;
 mod found;
-mod gates;
 mod player;
 mod playing;
 mod replies;

@@ -9,9 +9,9 @@ ghost use Rattle.dav_memory.specs.Memory.{Purges};
 ghost use Rattle.dav_local.specs.Made.{MadeAt};
 
 use crate::bodies::{Bodies, end_body, hold_body, no_bodies, open_body, poll_body, sweep};
-use crate::found::{Found, find_for};
+use crate::found::find_for;
 use crate::replies::{Reply, answered, numbered};
-use dav_config::DavHandler;
+use dav_config::{DavHandler, Found};
 use dav_core::Disk;
 use dav_io::{Moment, NoMemory, Octets};
 use dav_local::LocalFs;
