@@ -31,8 +31,20 @@ fn handler_over(alloc: Global, disk: MemDisk) -> Result<Handler> {
     Ok(DavConfig::new(alloc).filesystem(cache).build_handler())
 }
 
-// A request with a body in memory.
-fn request_of(alloc: Global, method: &str, target: &str, bytes: &[u8]) -> Result<Request<OneBody>> {
+/// A disk that is slow: each of its next reads gives one byte.
+pub fn slow(alloc: Global, disk: MemDisk) -> Result<MemDisk> {
+    let mut disk = disk;
+    disk.short(vec![in alloc; 1; 100]?);
+    Ok(disk)
+}
+
+/// A request with a body in memory.
+pub fn request_of(
+    alloc: Global,
+    method: &str,
+    target: &str,
+    bytes: &[u8],
+) -> Result<Request<OneBody>> {
     let mut body = Octets::empty(alloc);
     body.extend(bytes)?;
     let mut request = Request::new(alloc, OneBody::new(body)?);
@@ -60,8 +72,8 @@ fn end<F: DavFile<MemDisk>>(disk: &mut MemDisk, body: Body<GetBody<F>>)
     }
 }
 
-// All bytes of a body, which is polled with the disk of its store until it ends.
-fn gathered<F: DavFile<MemDisk>>(
+/// All bytes of a body, which is polled with the disk of its store until it ends.
+pub fn gathered<F: DavFile<MemDisk>>(
     alloc: Global,
     disk: &mut MemDisk,
     body: Body<GetBody<F>>,
