@@ -1,7 +1,9 @@
 """What `./serve` is asked, by sockets and by its words."""
 import contextlib
 import os
+import pathlib
 import re
+import select
 import shutil
 import signal
 import socket
@@ -63,18 +65,33 @@ def try_silence(work, tally):
         right, took = gets_ten(Door(it.port), "127.0.0.1", 30)
         tally("all are half heads, and the next client is answered in time", right and took < 15, f"{took:.1f} s")
     with Served(work, folder, env={"DAVSERVE_PATIENCE": "2"}) as it:
-        door = Door(it.port)
-        with door.open(room=4096) as none, door.open() as steady:
-            none.sendall(head("/long"))
-            steady.sendall(head("/long", "Connection: close"))
-            got = 0
-            for _ in range(40):
-                got += len(steady.recv(1 << 18))
-                time.sleep(0.15)
-            got += taken(steady)
-            tally("a slow and steady reader gets all bytes", got > LONG, got)
-            got = taken(none)
-            tally("a reader that takes nothing for longer than it may is cut", got < LONG, got)
+        try_patience(Door(it.port), tally)
+
+
+def try_patience(door, tally):
+    """Two readers of the long file where two seconds may pass in which a client takes nothing: one takes none of it, and one
+    takes a quarter of a MiB at a time, with pauses, for longer."""
+    with door.open(room=4096) as none, door.open() as steady:
+        none.sendall(head("/long", "Connection: close"))
+        steady.sendall(head("/long", "Connection: close"))
+        select.select([none], [], [], 30)
+        began, got, cut = time.monotonic(), 0, None
+        for _ in range(40):
+            got += len(steady.recv(1 << 18))
+            time.sleep(0.15)
+            if cut is None and not is_open(door.port, none):
+                cut = time.monotonic() - began
+        got += taken(steady)
+        tally("a slow and steady reader gets all bytes", got > LONG, got)
+        tally("a reader that takes nothing for two seconds is cut", cut and cut < 4.5, cut)
+        got = taken(none)
+        tally("the reader that was cut lacks bytes", got < LONG, got)
+
+
+def is_open(port, client):
+    """Whether the server's end of a client's connection is still open."""
+    far = client.getsockname()[1]
+    return any((at, state, end) == (port, OPEN, far) for _, at, state, _, end in sockets())
 
 
 def try_connections(work, tally):
@@ -88,6 +105,8 @@ def try_connections(work, tally):
             kept.recv(4096)
         right, took = gets_ten(door, "127.0.0.1", 1)
         tally("DAVSERVE_CONNECTIONS=2: a third client waits", not right, f"{took:.1f} s")
+        before = sleeps(it.port)
+        tally("who waits for the end of a connection is woken by itself", within(20, lambda: sleeps(it.port) > before + 1))
         began = time.monotonic()
         for _ in range(140):
             waiting.enter_context(door.open("127.0.0.4", 0.9)).close()
@@ -95,6 +114,16 @@ def try_connections(work, tally):
             kept.close()
         right, took = gets_ten(door, "127.0.0.1", 180)
         tally("140 others wait, and the next is answered once they end", right, f"{time.monotonic() - began:.1f} s")
+
+
+def sleeps(port):
+    """How often the process that listens has gone to sleep."""
+    for it in pathlib.Path("/proc").glob("[0-9]*"):
+        with contextlib.suppress(OSError):
+            words = (it / "cmdline").read_bytes().split(b"\0")
+            if words[0] == b"socat" and any(word.startswith(b"TCP-LISTEN:%s," % port.encode()) for word in words):
+                return int(re.search(r"\nvoluntary_ctxt_switches:\s*(\d+)", (it / "status").read_text())[1])
+    return 0
 
 
 def told_by(port):
