@@ -34,10 +34,10 @@ class Tally:
         if holds:
             self.held += 1
         else:
-            self.failed.append(what)
+            self.failed.append(f"{what}: {found}" if found != "" else what)
             if self.quiet:
                 raise Stopped(what)
-            print(f"  FAILED: {what}{f': {found}' if found != '' else ''}", flush=True)
+            print(f"  FAILED: {self.failed[-1]}", flush=True)
 
     def leave_out(self, what):
         self.left_out.append(what)
