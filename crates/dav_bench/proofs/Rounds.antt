@@ -45,7 +45,7 @@ pub below_length : (m n : ℕ) → length (places_below m n) ≡ n * m
 below_length m zero = ap length (none_below_dir m) ∙ omega arith
 below_length m (suc n) =
     ap (λ z. length (places_below m z)) (sym (add-one n)) ∙ (ap length (sym (below_more m n))
-        ∙ (length-append (places_below m n) (places_of n m) ∙ sum_of (length (places_below m n)) (length (places_of n m)) (below_length m n) (dir_length n m)))
+    ∙ (length-append (places_below m n) (places_of n m) ∙ sum_of (length (places_below m n)) (length (places_of n m)) (below_length m n) (dir_length n m)))
   where
     sum_of : (a b : ℕ) → a ≡ n * m → b ≡ m → a + b ≡ suc n * m
     sum_of a b e f = let g : suc n * m ≡ n * m + m = omega arith in omega arith

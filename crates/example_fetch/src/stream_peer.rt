@@ -89,9 +89,9 @@ impl<S: Source + Drop, K: Sink + Drop> StreamPeer<S, K> {
 impl<S: Source + Drop, K: Sink + Drop> Peer for StreamPeer<S, K> {
     ghost use Rattle.std.specs.Prelude.{None};
 
-    ghost state = { λ p. record { told = None; faults = p.faults.met } };
+    ghost state = { λ p. record { told = None; world = None; faults = p.faults.met } };
 
-    ghost calls = { λ p. record { replies = 0; failures = p.faults.met } };
+    ghost calls = { λ p. record { replies = 0; failures = p.faults.met; turns = 0 } };
 
     fn get(&mut self, path: &DavPath, fields: &Fields) -> Result<Got, PeerFault> {
         match self.exchange(path, fields) {

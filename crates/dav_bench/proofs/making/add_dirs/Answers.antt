@@ -8,7 +8,7 @@ add_dir-requires c =
 
 pub loop-i-preserved : goal.loop-i-preserved
 loop-i-preserved c = record {
-    made = dir_made c.args.m c.loop-i.i c.loop-i.disk c.add_dir.new.self c.in_ok-path.path c.beginning.result c.in_ok-path.ensures c.beginning.ensures (omega arith) c.loop-i.invariant.made
-    c.in_ok-add_dir.ensures.ok;
-    listings = c.in_ok-add_dir.ensures.listings ∙ c.loop-i.invariant.listings;
-  }
+  made = dir_made c.args.m c.loop-i.i c.loop-i.disk c.add_dir.new.self c.in_ok-path.path c.beginning.result c.in_ok-path.ensures c.beginning.ensures (omega arith) c.loop-i.invariant.made
+      c.in_ok-add_dir.ensures.ok;
+  listings = c.in_ok-add_dir.ensures.listings ∙ c.loop-i.invariant.listings;
+}
