@@ -155,7 +155,7 @@ def try_socket(work, tally):
 
 def try_pages(work, tally):
     """The program is told to ask for huge pages where the machine has them for who asks."""
-    program, mode = work.write("tmp/tunables", '#!/bin/sh\nprintf %s "$GLIBC_TUNABLES"\n'), ""
+    program, mode = work.write("tmp/tunables", '#!/bin/sh\n[ ! -S /dev/stdin ] || printf %s "$GLIBC_TUNABLES"\n'), ""
     program.chmod(0o755)
     with contextlib.suppress(OSError):
         mode = pathlib.Path("/sys/kernel/mm/transparent_hugepage/enabled").read_text()
