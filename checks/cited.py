@@ -25,7 +25,7 @@ SELF = "checks/cited.py"
 
 # Words of other programs, of the machine and of the Rust crates, which nothing here bears.
 OF_OTHERS = set("""
-arrayvec as_rel_ospath basic copymove fsync getdents64 glusterd jiff LimitFSIZE litmus logrotate MemFs MemLs noac
+arrayvec as_rel_ospath fsync getdents64 glusterd jiff LimitFSIZE logrotate MemFs MemLs noac
 nocto openat Packages pip pread64 Release roundrobin RRULE smallvec stat_at statx to_lowercase writev xmltree
 """.split())
 

@@ -115,8 +115,9 @@ def try_writing(ask, work, tally):
 
 
 def try_refusing(ask, work, tally):
-    """A way that is to be read alone. By HTTP/2 a refusal may come before the body went, and curl then may tell no status."""
-    for words in (("--http1.1", "-T", work.at / "demo/ten.txt"), ("-X", "DELETE"), ("-X", "MKCOL"), ("-X", "MOVE", "-H", "Destination: /x")):
+    """A way that is to be read alone. By HTTP/2 a refusal may come before the body went, and curl may then tell no status."""
+    for words in (("--http1.1", "-T", work.at / "demo/ten.txt"), ("-X", "DELETE"), ("-X", "MKCOL"),
+                  ("-X", "MOVE", "-H", "Destination: /x")):
         found = ask("/ten.txt", *words)[0]
         tally(f"{ask.url}: {words[1] if words[0] == '-X' else 'PUT'} is refused", found in ("403", "405"), found)
     tally(f"{ask.url}: the file stands", ask("/ten.txt")[0] == "200")

@@ -153,6 +153,19 @@ def try_socket(work, tally):
         tally("./serve: small parts go out at once (nodelay), and who is gone is found out (keepalive)", found == (1, 1), found)
 
 
+def try_pages(work, tally):
+    """The program is told to ask for huge pages where the machine has them for who asks."""
+    program, mode = work.write("tmp/tunables", '#!/bin/sh\n[ ! -S /dev/stdin ] || printf %s "$GLIBC_TUNABLES"\n'), ""
+    program.chmod(0o755)
+    with contextlib.suppress(OSError):
+        mode = pathlib.Path("/sys/kernel/mm/transparent_hugepage/enabled").read_text()
+    one = "glibc.malloc.perturb=1"
+    for given, wanted in (("", "glibc.malloc.hugetlb=1" if "[madvise]" in mode else ""), (one, one)):
+        with Served(work, folder_of(work), env={"DAVSERVE_PROGRAM": str(program), "GLIBC_TUNABLES": given}) as it:
+            found = talk(it.port, b"").decode()
+            tally(f"./serve: huge pages, where GLIBC_TUNABLES is {given!r}", found == wanted, found)
+
+
 def try_listens(work, tally):
     """Only this machine reaches it."""
     with Served(work, folder_of(work)) as it:
@@ -330,7 +343,7 @@ def try_options(work, tally):
 
 
 PARTS = (try_words, try_options, try_roots, try_release, try_private, try_answers, try_silence, try_listens,
-         try_socket, try_connections, try_ends, try_memory, try_many_at_once)
+         try_socket, try_pages, try_connections, try_ends, try_memory, try_many_at_once)
 
 
 def try_own(work, tally, parts=PARTS):

@@ -127,4 +127,5 @@ def try_all(only, tally):
         failed = failures(heading, edit, part)
         tally(f"{edit[0]} with {edit[2]!r} for {edit[1]!r}: {part.__name__} fails", failed)
         if failed:
-            print(f"{edit[0]}: {edit[1].strip()!r} as {edit[2].strip()!r}: {failed[0]} ({time.monotonic() - began:.0f} s)", flush=True)
+            first = failed[0].split("\n")[0][:160]
+            print(f"{edit[0]}: {edit[1].strip()!r} as {edit[2].strip()!r}: {first} ({time.monotonic() - began:.0f} s)", flush=True)
