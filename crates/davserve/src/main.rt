@@ -18,7 +18,7 @@ const HELP: &str = "
   ROOT bench SEED     plays a large input, made from the number SEED from 0 to 399, over a disk in memory
   ROOT mirror         fetches the folder ROOT page by page and file by file, as a client would, and writes a line for
                       each file: its length and its link; names that begin with a dot are left out. On standard error
-                      it says how many files and bytes these are, or at which path it ended, and why
+                      it says how many files and bytes these are, or why it ended, and where at a path, at which
 
 Options of serve, in any order, each at most once:
   --autoindex         a directory is answered with a page of its entries
