@@ -47,6 +47,19 @@ def try_answers(work, tally):
         tally("what it says isn't about a client alone", not re.search("reading the requests|writing the answers", it.said()))
 
 
+def try_said(work, tally):
+    """What isn't about a client alone is told as it comes, and no notice of what listens."""
+    folder = work.at / "tmp/goes"
+    folder.mkdir()
+    with Served(work, folder) as it:
+        folder.rmdir()
+        for _ in range(3):
+            talk(it.port, head("/ten.txt", "Connection: close"))
+        told = within(5, lambda: it.said().count("davserve: no folder can be seen at ") == 3)
+        tally("three times that the folder isn't there any more", told, it.said())
+        tally("nothing else is said", it.said().count("\n") == 4, it.said())
+
+
 def taken(it):
     """How many bytes a connection gives until it ends."""
     got = 0
@@ -64,6 +77,7 @@ def try_silence(work, tally):
             halves.enter_context(socket.create_connection(("127.0.0.1", int(it.port)), 10)).sendall(b"GET /ten")
         right, took = gets_ten(Door(it.port), "127.0.0.1", 30)
         tally("all are half heads, and the next client is answered in time", right and took < 15, f"{took:.1f} s")
+        tally("nothing is said of those that were silent", it.said().count("\n") == 1, it.said())
     with Served(work, folder, env={"DAVSERVE_PATIENCE": "2"}) as it:
         try_patience(Door(it.port), tally)
 
@@ -116,14 +130,23 @@ def try_connections(work, tally):
         tally("140 others wait, and the next is answered once they end", right, f"{time.monotonic() - began:.1f} s")
 
 
-def sleeps(port):
-    """How often the process that listens has gone to sleep."""
+def listening(port):
+    """The processes that hold the socket which listens, each by its folder of /proc."""
+    rows = [row.split() for row in pathlib.Path("/proc/net/tcp").read_text().splitlines()[1:]]
+    wanted = {f"socket:[{row[9]}]" for row in rows if row[3] == LISTENS and int(row[1].split(":")[1], 16) == int(port)}
+    found = []
     for it in pathlib.Path("/proc").glob("[0-9]*"):
         with contextlib.suppress(OSError):
-            words = (it / "cmdline").read_bytes().split(b"\0")
-            if words[0] == b"socat" and any(word.startswith(b"TCP-LISTEN:%s," % port.encode()) for word in words):
-                return int(re.search(r"\nvoluntary_ctxt_switches:\s*(\d+)", (it / "status").read_text())[1])
-    return 0
+            if any(os.readlink(held) in wanted for held in (it / "fd").iterdir()):
+                found.append(it)
+    if not found:
+        raise OSError(f"nothing listens on {port}")
+    return found
+
+
+def sleeps(port):
+    """How often the process that listens has gone to sleep."""
+    return int(re.search(r"\nvoluntary_ctxt_switches:\s*(\d+)", (listening(port)[0] / "status").read_text())[1])
 
 
 def told_by(port):
@@ -142,12 +165,35 @@ except OSError:
 it.sendall(b"%d %d" % (it.getsockopt(socket.IPPROTO_TCP, socket.TCP_NODELAY) != 0,
                        it.getsockopt(socket.SOL_SOCKET, socket.SO_KEEPALIVE) != 0))
 """
+# The same in C, for what forks and starts nothing.
+TELLS_C = """#include <netinet/in.h>
+#include <netinet/tcp.h>
+#include <stdio.h>
+#include <sys/socket.h>
+int main(void) {
+  int soon, kept;
+  socklen_t length = sizeof soon;
+  if (getsockopt(0, IPPROTO_TCP, TCP_NODELAY, &soon, &length) || getsockopt(0, SOL_SOCKET, SO_KEEPALIVE, &kept, &length)) return 0;
+  dprintf(1, "%d %d", soon != 0, kept != 0);
+  return 0;
+}
+"""
+
+
+def telling(work):
+    """The program that tells of its socket."""
+    program = work.write("tmp/tells", TELLS.format(sys.executable))
+    if work.words:
+        source = work.write("tmp/tells.c", TELLS_C)
+        subprocess.run(["cc", "-c", "-fPIE", "-o", work.at / "tmp/tells.o", source], check=True)
+        link_fast(work, program, {"DAVSERVE_OBJECT": str(work.at / "tmp/tells.o")})
+    program.chmod(0o755)
+    return program
 
 
 def try_socket(work, tally):
     """What the socket of a connection is told."""
-    program = work.write("tmp/tells", TELLS.format(sys.executable))
-    program.chmod(0o755)
+    program = telling(work)
     with Served(work, folder_of(work), env={"DAVSERVE_PROGRAM": str(program)}) as it:
         found = told_by(it.port)
         tally("./serve: small parts go out at once (nodelay), and who is gone is found out (keepalive)", found == (1, 1), found)
@@ -204,17 +250,20 @@ def try_ends(work, tally):
             left = [at for _, at, state, *_ in sockets() if at == int(port) and state in (OPEN, LISTENS)]
             tally(f"./serve ended by {name}: no socket is left", not left, left)
             (folder / "late").unlink(missing_ok=True)
-    script = f"'{work.at}/serve' '{folder}' {port} 2>'{work.at}/tmp/script' & sleep 2; kill $!; wait $!; echo it goes on"
-    ran = subprocess.run(["bash", "-c", script], stdin=subprocess.DEVNULL, stdout=subprocess.PIPE, start_new_session=True)
+    words = " ".join(work.words)
+    script = f"'{work.at}/serve' '{folder}' {port} {words} 2>'{work.at}/tmp/script' & sleep 2; kill $!; wait $!; echo it goes on"
+    ran = subprocess.run(["bash", "-c", script], stdin=subprocess.DEVNULL, stdout=subprocess.PIPE, start_new_session=True,
+                         env={**os.environ, **work.env})
     tally("a script that ends ./serve isn't ended with it", ran.stdout == b"it goes on\n", ran.stdout)
 
 
 def try_memory(work, tally):
     """A connection that gets no memory ends, and the others go on."""
     folder, port = folder_of(work), free_port()
-    script = f"ulimit -v 200000; DAVSERVE_SILENCE=600 exec '{work.at}/serve' '{folder}' {port}"
+    script = f"ulimit -v 200000; DAVSERVE_SILENCE=600 exec '{work.at}/serve' '{folder}' {port} {' '.join(work.words)}"
     with open(work.at / "tmp/memory", "wb") as said:
-        run = subprocess.Popen(["bash", "-c", script], stdin=subprocess.DEVNULL, stderr=said, start_new_session=True)
+        run = subprocess.Popen(["bash", "-c", script], stdin=subprocess.DEVNULL, stderr=said, start_new_session=True,
+                               env={**os.environ, **work.env})
     try:
         within(20, lambda: listens(port))
         with Door(port).open(limit=120) as other:
@@ -320,7 +369,7 @@ def try_words(work, tally):
         shutil.copy2(work.at / name, bare / name)
     says("no program and no toolchain", "put the toolchain's rt on the PATH", "demo", free_port(), env=env, status=1, at=bare)
     told = subprocess.run([work.at / "serve", "--help"], stdout=subprocess.PIPE, text=True)
-    for it in ("--private", "--autoindex", "--indexfile NAME", "--prefix P", "--fold", "--macos", "--bufsize N"):
+    for it in ("--private", "--fast", "--autoindex", "--indexfile NAME", "--prefix P", "--fold", "--macos", "--bufsize N"):
         tally(f"./serve --help has a line for {it}", told.returncode == 0 and f"\n  {it} " in told.stdout, told.stdout)
     program = work.at / "crates/davserve/out/davserve"
     lost = subprocess.run([program, "missing", "serve"], cwd=work.at, input=b"", stderr=subprocess.PIPE)
@@ -340,25 +389,94 @@ def try_options(work, tally):
         tally("a directory that lacks the index file", got.startswith(b"HTTP/1.1 404"), got[:40])
 
 
+def link_fast(work, program, env=None):
+    """Links the copy's deploy/fast.c before the program's object, or the one that is named."""
+    env = {**os.environ, "DAVSERVE_OBJECT": str(TOP / "crates/davserve/out/davserve.o"), **(env or {})}
+    ran = subprocess.run([work.at / "deploy/fast", program], env=env, stdout=subprocess.PIPE, stderr=subprocess.STDOUT, text=True)
+    if ran.returncode:
+        # (it isn't what is tried: a line that is taken out isn't seen by this)
+        raise RuntimeError(ran.stdout)
 
 
-PARTS = (try_words, try_options, try_roots, try_release, try_private, try_answers, try_silence, try_listens,
+def zombies(process):
+    """How many processes that have ended wait to be noticed by this one."""
+    found = 0
+    for it in pathlib.Path("/proc").glob("[0-9]*"):
+        with contextlib.suppress(OSError):
+            state, parent = (it / "stat").read_text().rpartition(")")[2].split()[:2]
+            found += state == "Z" and parent == process.name
+    return found
+
+
+def try_fast(work, tally):
+    """By --fast the program listens, notices each that ended, and is taken from beside the script."""
+    folder, program = folder_of(work), TOP / "crates/davserve/out/davserve"
+    alone = work.at / "tmp/beside"
+    alone.mkdir()
+    for name, file in (("serve", work.at / "serve"), ("davserve", program), ("davserve-fast", work.env["DAVSERVE_PROGRAM"])):
+        shutil.copy(file, alone / name)
+    with Served(work, folder, env={"DAVSERVE_PROGRAM": ""}, at=alone) as it:
+        tally("the program beside the script is taken", gets_ten(Door(it.port), "127.0.0.1", 10)[0], it.said())
+        process = listening(it.port)[0]
+        tally("it is what listens", os.readlink(process / "exe") == str(alone / "davserve-fast"))
+        with Door(it.port).open() as kept:
+            kept.sendall(head("/ten.txt"))
+            kept.recv(4096)
+            tally("no connection holds what listens", listening(it.port) == [process], listening(it.port))
+        right = sum(gets_ten(Door(it.port), "127.0.0.1", 10)[0] for _ in range(100))
+        tally("100 connections one after the other", right == 100, right)
+        tally("those that have ended are noticed", within(5, lambda: zombies(process) == 0), zombies(process))
+    (alone / "davserve-fast").unlink()
+    for what, given, at in (("another program", program, None), ("no program", "", alone)):
+        with Served(work, folder, env={"DAVSERVE_PROGRAM": str(given)}, at=at) as it:
+            fits = it.run.wait(10) == 1 and it.said().endswith("isn't the program for --fast: deploy/fast builds it\n")
+            tally(f"{what} is refused", fits, it.said())
+    with Served(work, folder, port=free_port()) as one, Served(work, folder, port=one.port) as it:
+        tally("a port in use", it.run.wait(10) == 1 and f"port {it.port} can't be had: Address already in use" in it.said(), it.said())
+
+
+PARTS = (try_words, try_options, try_roots, try_release, try_private, try_answers, try_said, try_silence, try_listens,
          try_socket, try_pages, try_connections, try_ends, try_memory, try_many_at_once)
+# Those of --fast: all but what words are understood.
+FAST = (try_fast, try_roots, try_private, try_answers, try_said, try_silence, try_listens, try_socket, try_connections, try_ends,
+        try_memory, try_many_at_once)
+
+
+def try_parts(work, tally, parts):
+    for part in parts:
+        try:
+            part(work, tally)
+        except (OSError, EOFError, subprocess.SubprocessError) as error:
+            tally(part.__name__, False, repr(error))
+
+
+def is_reached(tally):
+    with socket.socket() as it:
+        it.bind(("127.0.0.1", 0))
+        it.listen()
+        if listens(it.getsockname()[1]):
+            return True
+    tally.leave_out("all of ./serve, since 127.0.0.1 can't be reached here")
+    return False
 
 
 def try_own(work, tally, parts=PARTS):
     """What needs socat and Python alone."""
     if not shutil.which("socat"):
         tally.leave_out("all of ./serve, since socat is missing")
-        return
-    with socket.socket() as it:
-        it.bind(("127.0.0.1", 0))
-        it.listen()
-        if not listens(it.getsockname()[1]):
-            tally.leave_out("all of ./serve, since 127.0.0.1 can't be reached here")
-            return
-    for part in parts:
-        try:
-            part(work, tally)
-        except (OSError, EOFError, subprocess.SubprocessError) as error:
-            tally(part.__name__, False, repr(error))
+    elif is_reached(tally):
+        try_parts(work, tally, parts)
+
+
+def try_own_fast(work, tally, parts=FAST):
+    """The same by --fast, in a folder of its own, with the program that the copy's deploy/fast makes."""
+    lacking = [name for name in ("cc", "objcopy", "rt") if not shutil.which(name)]
+    if not (TOP / "crates/davserve/out/davserve.o").exists():
+        lacking.append("crates/davserve/out/davserve.o")
+    if lacking:
+        tally.leave_out(f"all of ./serve --fast, for want of {' '.join(lacking)}")
+    elif is_reached(tally):
+        program = work.at / "tmp/davserve-fast"
+        link_fast(work, program)
+        work.words, work.env = ("--fast",), {"DAVSERVE_PROGRAM": str(program)}
+        try_parts(work, lambda what, *found: tally(f"--fast: {what}", *found), parts)

@@ -26,9 +26,28 @@ OWN = (
     ("private=/$(drawn)", "private=/0123456789abcdef0123456789abcdef", own.try_private),
     ('prefix=${prefix%/}$private\n', 'private=\n', own.try_private),
     ("kill -TERM 0", 'kill -TERM "$1"', own.try_ends),
+    (" --line-buffered", "", own.try_said),
+    ("-e ' socat\\[[0-9]*\\] [NW] '", "-e '^$'", own.try_said),
+    ("-e '^davserve: reading the requests failed$'", "-e '^$'", own.try_silence),
     ("set -m\n", "", own.try_ends),
     ("trap 'exit 143' TERM\n", "", own.try_ends),
     ('elif [ -d "$top/crates" ]', "elif true", own.try_release),
+)
+# Of deploy/fast.c, by a heading of its own: what is changed there, and the part that fails.
+FORKS = "serve --fast"
+FAST = (
+    ("{htonl(INADDR_LOOPBACK)}", "{0}", own.try_listens),
+    ("  set(it, SOL_SOCKET, SO_REUSEADDR, &on, sizeof on);\n", "", own.try_ends),
+    ('listen(it, number("DAVSERVE_BACKLOG"))', "listen(it, 128)", own.try_connections),
+    ("  set(client, IPPROTO_TCP, TCP_NODELAY, &on, sizeof on);\n", "", own.try_socket),
+    ("  set(client, SOL_SOCKET, SO_KEEPALIVE, &on, sizeof on);\n", "", own.try_socket),
+    ("  set(client, SOL_SOCKET, SO_RCVTIMEO, &longest, sizeof longest);\n", "", own.try_silence),
+    ("  set(client, IPPROTO_TCP, TCP_USER_TIMEOUT, &most, sizeof most);\n", "", own.try_silence),
+    ("open < most", "1", own.try_connections),
+    ("    while (open && waitpid(-1, NULL, WNOHANG) > 0) open--;\n", "", own.try_fast),
+    ("&& waitpid(-1, NULL, WNOHANG) > 0) open--;", "&& waitpid(-1, NULL, WNOHANG) > 0) ;", own.try_connections),
+    ("    close(client);\n", "", own.try_answers),
+    ("close(at.fd) || ", "", own.try_fast),
 )
 
 NGINX, APACHE, CADDY = "deploy/nginx.conf", "deploy/apache.conf", "deploy/Caddyfile"
@@ -93,6 +112,8 @@ def failures(heading, edit, part):
         work = Work(folder, edit)
         if heading == "serve":
             own.try_own(work, tally, [part])
+        elif heading == FORKS:
+            own.try_own_fast(work, tally, [part])
         elif part is ways.lines:
             part(ways.Way(work, heading), tally)
         else:
@@ -107,6 +128,7 @@ def failures(heading, edit, part):
 def rows(only):
     """Each line with its way, those of one part side by side."""
     all_rows = [("serve", ("serve", old, new), part) for old, new, part in OWN]
+    all_rows += [(FORKS, ("deploy/fast.c", old, new), part) for old, new, part in FAST]
     all_rows += [(heading, (file, old, new), part) for heading, file, old, new, part in WAYS]
     chosen = [row for row in all_rows if not only or row[0] == only]
     return sorted(chosen, key=lambda row: (row[0], row[2].__name__))
@@ -116,7 +138,7 @@ def try_all(only, tally):
     """Each part has to hold as all stands, and to fail with each of its lines."""
     seen, found = {}, ways.sections()
     for heading, edit, part in rows(only):
-        missing = lacking(found[heading])
+        missing = lacking(found[heading.split()[0]])
         if missing:
             tally.leave_out(f"{edit[0]}: {edit[1]!r}, for want of {' '.join(missing)}")
             continue

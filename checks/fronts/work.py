@@ -61,6 +61,8 @@ class Work:
     def __init__(self, folder, edit=None):
         self.at = pathlib.Path(folder)
         self.edit = edit
+        # What each ./serve is given besides: words, and the environment.
+        self.words, self.env = (), {}
         self.at.chmod(0o755)
         self.ports = {}
         for port in PORTS:
@@ -211,9 +213,9 @@ class Served:
         self.port = free_port() if port is None else port
         self.log = work.at / f"tmp/said-{self.port}"
         with open(self.log, "wb") as said:
-            line = [(at or work.at) / "serve", root, *filter(None, [self.port]), *words]
+            line = [(at or work.at) / "serve", root, *filter(None, [self.port]), *words, *work.words]
             self.run = subprocess.Popen(line, cwd=work.at, stdin=subprocess.DEVNULL,
-                                        env={**os.environ, **(env or {})}, stderr=said, start_new_session=True)
+                                        env={**os.environ, **work.env, **(env or {})}, stderr=said, start_new_session=True)
         self.told = within(20, lambda: b"http://" in self.log.read_bytes() or self.run.poll() is not None)
 
     def said(self):
