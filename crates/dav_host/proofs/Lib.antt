@@ -1,3 +1,4 @@
 pub mod Listers
 pub mod PassedNames
 pub mod PathTexts
+pub mod Places

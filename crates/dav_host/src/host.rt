@@ -1,7 +1,10 @@
-ghost use Rattle.std.specs.Prelude.{◌≡◌, ◌≢◌, ◌≤◌, None, Some, IsSome, IfOk, IfSome, IfErr, refl, string_bytes, string_capacity};
+ghost use Rattle.std.specs.Prelude.{◌≡◌, ◌≢◌, ◌≤◌, ◌<◌, length, is_ok, None, Some, IsSome, IfOk, IfSome, IfErr, refl, string_bytes, string_capacity};
 ghost use Rattle.dav_io.specs.Counts.{Rose, one_more};
 ghost use Rattle.dav_host.specs.Host.{room, live_at, untold, never_told};
 ghost use Rattle.dav_host.specs.Listings.{listers_at, BeginsAt, GoesAt};
+ghost use Rattle.dav_host.specs.Places.{SeeksAt, ReadsAt};
+ghost use Rattle.std.specs.Result.{result_ok};
+ghost use Rattle.dav_core.specs.Disk.{Seeks, Reads};
 ghost use Rattle.dav_core.specs.Listing.{Lists, ListsOn};
 ghost use Rattle.dav_core.proofs.Untold.{untold_live};
 
@@ -20,7 +23,7 @@ use dav_io::{NoMemory, Text};
 use std::alloc::Global;
 use std::collections::BTreeMap;
 use std::fs::ReadDir;
-use std::os::unix::fs::OpenOptionsExt;
+use std::os::unix::fs::{FileExt, OpenOptionsExt};
 use std::rt::Files;
 use std::{fs, io};
 
@@ -58,7 +61,10 @@ fn open_file<R: Files>(rt: &R, path: &str, how: OpenOptions, public: bool) -> io
     options.open(rt, path)
 }
 
-impl<R: Files + AllocGlobal + Clone + Drop> HostDisk<R> {
+impl<R: Files + AllocGlobal + Clone + Drop> HostDisk<R>
+where
+    R::File: FileExt,
+{
     /// The folder `root`, with room for the texts of two paths.
     pub fn new(alloc: Global, rt: R, root: &str) -> Result<HostDisk<R>, NoMemory>
         ensures state { IfOk result (λ d. ⟦<HostDisk<R> as Disk>⟧.state d ≡ untold 0 0 (λ _. None) (λ _. None)) }
@@ -116,7 +122,10 @@ impl<R: Files + AllocGlobal + Clone + Drop> HostDisk<R> {
     }
 }
 
-impl<R: Files + AllocGlobal + Clone + Drop> Disk for HostDisk<R> {
+impl<R: Files + AllocGlobal + Clone + Drop> Disk for HostDisk<R>
+where
+    R::File: FileExt,
+{
     ghost state = { λ d. untold d.faults d.asked (live_at d.opens) (listers_at d.listings) };
 
     fn meta(&mut self, path: &FsPath) -> Result<Meta, DiskError> {
@@ -174,7 +183,15 @@ impl<R: Files + AllocGlobal + Clone + Drop> Disk for HostDisk<R> {
         }
     }
 
-    fn seek(&mut self, file: Handle, place: u64) -> Result<(), DiskError> {
+    /// Of a file that is opened to be read alone the place is kept here, and the machine isn't asked: each read behind it is
+    /// one call, at that place. Refused are places that no call can name, above 2^63 - 1; where the machine has more to
+    /// say of a place, the next read does.
+    fn seek(&mut self, file: Handle, place: u64) -> Result<(), DiskError>
+        requires { IsSome ((⟦<HostDisk<R> as Disk>⟧.state self.old).live file.0) }
+        ensures done { Seeks (⟦<HostDisk<R> as Disk>⟧.state self.old) file.0 place result (⟦<HostDisk<R> as Disk>⟧.state self.new) }
+        ensures loan { ⟦<HostDisk<R> as Disk>⟧.loan self.new ≡ ⟦<HostDisk<R> as Disk>⟧.loan self.old }
+        ensures place { SeeksAt file.0 place (is_ok result) self.old.opens self.new.opens }
+    {
         self.asked = self.asked.saturating_add(1);
         if seek_at(&mut self.opens, file.0, place) {
             return Ok(());
@@ -182,7 +199,14 @@ impl<R: Files + AllocGlobal + Clone + Drop> Disk for HostDisk<R> {
         Err(self.fault())
     }
 
-    fn read(&mut self, file: Handle, into: &mut [u8]) -> Result<usize, DiskError> {
+    /// A place that is kept moves by what was read. It is that of this file alone.
+    fn read(&mut self, file: Handle, into: &mut [u8]) -> Result<usize, DiskError>
+        requires live { IsSome ((⟦<HostDisk<R> as Disk>⟧.state self.old).live file.0) }
+        requires room { 0 < length into.old }
+        ensures done { Reads (⟦<HostDisk<R> as Disk>⟧.state self.old) file.0 into.new result (⟦<HostDisk<R> as Disk>⟧.state self.new) }
+        ensures loan { ⟦<HostDisk<R> as Disk>⟧.loan self.new ≡ ⟦<HostDisk<R> as Disk>⟧.loan self.old }
+        ensures place { ReadsAt file.0 (result_ok result) self.old.opens self.new.opens }
+    {
         self.asked = self.asked.saturating_add(1);
         if !can_read(&self.opens, file.0) {
             return Err(DiskError::IsDir);

@@ -1,18 +1,23 @@
 // The table of open files.
-ghost use Rattle.std.specs.Prelude.{◌≡◌, ◌≤◌, ◌<◌, ◌^◌, ◌⊎◌, ℕ, Some, None, IsSome, IfOk, IfErr, IfSome, IfNone, OnOk, OnErr, length, option_map};
+ghost use Rattle.std.specs.Prelude.{◌≡◌, ◌≤◌, ◌<◌, ◌^◌, ◌⊎◌, ℕ, true, nat_le, Some, None, IsSome, IfOk, IfErr, IfSome, IfNone, OnOk, OnErr, length, option_map};
 ghost use Rattle.dav_core.specs.World.{put};
 ghost use Rattle.dav_core.specs.Disk.{can_read as the_can_read, may_change as the_may_change};
 ghost use Rattle.dav_core.specs.Writing.{can_write as the_can_write};
 ghost use Rattle.dav_host.specs.Host.{live_at, live_of};
+ghost use Rattle.dav_host.specs.Places.{is_only_read as the_is_only_read, last_place, place_at, sought, behind, SeeksAt, ReadsAt};
 
 use crate::meta::told;
-use crate::stream::{read_again, write_again};
+use crate::stream::{read_again, read_again_at, write_again};
 use dav_core::{DiskError, Kind, Meta, OpenOptions};
 use dav_io::NoMemory;
 use std::alloc::Global;
 use std::collections::BTreeMap;
 use std::fs::OpenFile;
 use std::io::{Read, Seek, SeekFrom, Write};
+use std::os::unix::fs::FileExt;
+
+// The last place that a call of the machine can name, 2^63 - 1.
+const LAST_PLACE: u64 = 0x7FFF_FFFF_FFFF_FFFF;
 
 // An open file of the machine, with the kind that was seen when it was opened, and how it was opened.
 #[derive(Drop)]
@@ -20,6 +25,8 @@ pub struct HostFile<F> {
     pub file: F,
     pub kind: Kind,
     pub how: OpenOptions,
+    // Where a file that is only read is read next, once its place was set. Before, and of every other, the machine has it.
+    pub place: Option<u64>,
 }
 
 // What the machine says of an open file. `Failed` is a fault.
@@ -82,9 +89,10 @@ impl<F: Drop> Opens<F> {
     }
 
     // Keeps an open file by its handle.
-    #[tactic(auto, unfolding(crate::specs::Host::live_at))]
+    #[tactic(auto, unfolding(crate::specs::Host::live_at, crate::specs::Places::place_at))]
     fn insert(&mut self, handle: u32, file: HostFile<F>) -> Result<(), NoMemory>
         ensures ok { OnOk result (live_at self.new ≡ put handle (Some (live_of file)) (live_at self.old)) }
+        ensures place { OnOk result (place_at self.new handle ≡ file.place) }
         ensures err { OnErr result (live_at self.new ≡ live_at self.old) }
     {
         if handle == 0 {
@@ -98,8 +106,8 @@ impl<F: Drop> Opens<F> {
         }
     }
 
-    // Keeps a file that was opened so by its handle, and what was seen of it then.
-    #[tactic(auto, unfolding(crate::specs::Host::live_at))]
+    // Keeps a file that was opened so by its handle, and what was seen of it then. No place of it was set yet.
+    #[tactic(auto, unfolding(crate::specs::Host::live_at, crate::specs::Places::place_at))]
     pub fn keep(
         &mut self,
         handle: u32,
@@ -109,10 +117,17 @@ impl<F: Drop> Opens<F> {
     ) -> Result<(), NoMemory>
         ensures ok { OnOk result (live_at self.new
             ≡ put handle (Some (record { kind = seen.now.kind; how = how })) (live_at self.old)) }
+        ensures place { OnOk result (place_at self.new handle ≡ None) }
         ensures err { OnErr result (live_at self.new ≡ live_at self.old) }
     {
         let kind = seen.kind;
-        match self.insert(handle, HostFile { file, kind, how }) {
+        let opened = HostFile {
+            file,
+            kind,
+            how,
+            place: None,
+        };
+        match self.insert(handle, opened) {
             Ok(()) => {}
             Err(error) => return Err(error),
         }
@@ -224,20 +239,43 @@ pub fn meta_at<F: OpenFile>(opens: &mut Opens<F>, handle: u32) -> Result<Meta, D
     }
 }
 
+// Reads on in a file: from the place that is kept, or else from where the machine has it. None is a fault.
+fn read_on<F: Read + FileExt>(opened: &mut HostFile<F>, into: &mut [u8]) -> Option<usize>
+    ensures live { live_of opened.new ≡ live_of opened.old }
+    ensures place { opened.new.place ≡ behind opened.old.place result }
+    ensures within { IfSome result (λ n. n ≤ length into.new) }
+{
+    let Some(place) = opened.place else {
+        return read_again(&mut opened.file, into).ok();
+    };
+    match read_again_at(&opened.file, into, place) {
+        Ok(count) => {
+            opened.place = Some(place.saturating_add(count as u64));
+            Some(count)
+        }
+        Err(_) => None,
+    }
+}
+
 // Reads from an open file. None is a fault.
-#[tactic(auto, unfolding(crate::specs::Host::live_at))]
-pub fn read_at<F: Read>(opens: &mut Opens<F>, handle: u32, into: &mut [u8]) -> Option<usize>
+#[tactic(auto, unfolding(crate::specs::Host::live_at, crate::specs::Places::place_at))]
+pub fn read_at<F: Read + FileExt>(
+    opens: &mut Opens<F>,
+    handle: u32,
+    into: &mut [u8],
+) -> Option<usize>
     ensures live { live_at opens.new ≡ live_at opens.old }
     ensures within { IfSome result (λ n. n ≤ length into.new) }
+    ensures place { ReadsAt handle result opens.old opens.new }
 {
     if handle == 0 {
         return match &mut opens.first {
-            Some(opened) => read_again(&mut opened.file, into).ok(),
+            Some(opened) => read_on(opened, into),
             None => None,
         };
     }
     match opens.others.get_mut(&handle) {
-        Some(opened) => read_again(&mut opened.file, into).ok(),
+        Some(opened) => read_on(opened, into),
         None => None,
     }
 }
@@ -261,19 +299,43 @@ pub fn write_at<F: Write>(opens: &mut Opens<F>, handle: u32, from: &[u8]) -> Opt
     }
 }
 
+// Whether a regular file was opened to be read and for nothing else.
+fn is_only_read<F>(file: &HostFile<F>) -> bool
+    ensures { result ≡ the_is_only_read (live_of file.now) }
+{
+    file.kind == Kind::File && file.how.read && !(file.how.write || file.how.append)
+}
+
+// Sets the place of a file. Of one that is only read it is kept, and no call of the machine is made. False is a fault.
+fn go_to<F: Seek>(opened: &mut HostFile<F>, place: u64) -> bool
+    ensures live { live_of opened.new ≡ live_of opened.old }
+    ensures place { opened.new.place ≡ sought (Some (live_of opened.old)) place result opened.old.place }
+    ensures named { the_is_only_read (live_of opened.old) ≡ true → result ≡ nat_le place last_place }
+{
+    if !is_only_read(opened) {
+        return opened.file.seek(SeekFrom::Start(place)).is_ok();
+    }
+    if place > LAST_PLACE {
+        return false;
+    }
+    opened.place = Some(place);
+    true
+}
+
 // Sets the place of an open file. False is a fault.
-#[tactic(auto, unfolding(crate::specs::Host::live_at))]
+#[tactic(auto, unfolding(crate::specs::Host::live_at, crate::specs::Places::place_at))]
 pub fn seek_at<F: Seek>(opens: &mut Opens<F>, handle: u32, place: u64) -> bool
-    ensures { live_at opens.new ≡ live_at opens.old }
+    ensures live { live_at opens.new ≡ live_at opens.old }
+    ensures place { SeeksAt handle place result opens.old opens.new }
 {
     if handle == 0 {
         return match &mut opens.first {
-            Some(opened) => opened.file.seek(SeekFrom::Start(place)).is_ok(),
+            Some(opened) => go_to(opened, place),
             None => false,
         };
     }
     match opens.others.get_mut(&handle) {
-        Some(opened) => opened.file.seek(SeekFrom::Start(place)).is_ok(),
+        Some(opened) => go_to(opened, place),
         None => false,
     }
 }

@@ -8,6 +8,7 @@ ghost use Rattle.dav_host.specs.Host.{untold_stream};
 
 use dav_io::{Failed, Sink, Source};
 use std::io::{ErrorKind, Read, Write};
+use std::os::unix::fs::FileExt;
 
 // How often a call is tried again where a signal came between.
 const TRIES: u32 = 1000;
@@ -20,6 +21,23 @@ pub fn read_again<R: Read>(input: &mut R, into: &mut [u8]) -> Result<usize, Fail
     'tries: for _ in 0..TRIES {
         match input.read(into) {
             Ok(count) => return Ok(count),
+            Err(error) => {
+                if error.kind() != ErrorKind::Interrupted {
+                    return Err(Failed);
+                }
+            }
+        }
+    }
+    Err(Failed)
+}
+
+// The same from a place on, in bytes from the first. The machine's own place stays where it is.
+pub fn read_again_at<R: FileExt>(input: &R, into: &mut [u8], place: u64) -> Result<usize, Failed>
+    ensures { IfOk result (λ n. n ≤ length into.new) }
+{
+    for _ in 0..TRIES {
+        match input.read_at(into, place) {
+            Ok(read) => return Ok(read),
             Err(error) => {
                 if error.kind() != ErrorKind::Interrupted {
                     return Err(Failed);
