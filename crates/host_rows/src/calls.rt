@@ -1,6 +1,7 @@
 //! Calls of a disk of the machine, one after the other.
 use crate::changes::{change, write};
 use crate::looks::{Kept, look};
+use crate::steps::steps;
 use anyhow::{Result, bail};
 use dav_core::{Disk, DiskError, FsPath, Kind, Meta, OpenOptions};
 use dav_host::HostDisk;
@@ -139,6 +140,7 @@ fn call<D: Disk>(
             line.push_str("turned")?;
         }
         "write" => write(disk, &path, part, line)?,
+        "steps" => steps(alloc, disk, &path, part, line)?,
         "keep" | "same" | "number" | "since" | "when" => look(rt, disk, part, kept, line)?,
         _ => change(alloc, disk, part, line)?,
     }

@@ -4,8 +4,8 @@ use anyhow::{Result, bail};
 use dav_core::{Disk, DiskError, FsPath, OpenOptions};
 use std::alloc::Global;
 
-// How a file is opened, by letters.
-fn options(letters: &str) -> OpenOptions {
+/// How a file is opened, by letters.
+pub fn options(letters: &str) -> OpenOptions {
     OpenOptions {
         read: letters.contains('r'),
         write: letters.contains('w'),

@@ -19,7 +19,9 @@
 //! tells the first two names of a folder; `turn`; and those that change what stands: `write PATH HOW PLACE TEXT`, which
 //! opens a file as letters say and writes a text (`r` and `w` read and write, `a` append, `t` truncate, `c` create, `n`
 //! create_new, `p` public, `-` none), `make PATH`, `share PATH`, which makes a public one, and `clear PATH` of folders,
-//! `remove PATH` of a file, `rename PATH PATH`, `copy PATH PATH`.
+//! `remove PATH` of a file, `rename PATH PATH`, `copy PATH PATH`. `steps PATH HOW STEP..` opens a file as letters say, makes
+//! steps while it is open and closes it: `seek@PLACE`, `read`, which reads at most three bytes, `write@TEXT`, and
+//! `other@PATH`, which opens another file, reads there twice from its sixth byte on and closes it.
 //!
 //! Looks at numbers and times are made as a first word says: `look` and `link` as above, `open` by an opening, `again` by
 //! an opening whose file is asked twice. `keep HOW PATH` keeps the number and the time; `same HOW PATH` tells whether both
@@ -35,6 +37,7 @@
 mod calls;
 mod changes;
 mod looks;
+mod steps;
 mod stores;
 mod streams;
 
