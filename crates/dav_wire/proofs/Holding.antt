@@ -23,15 +23,22 @@ moved : (f a b : List ℕ) (l n : ℕ) → a ≡ take n (drop l f) ++ b → take
 moved f a b l n e =
     ap (λ x. take l f ++ x) e ∙ sym (append_assoc (take l f) (take n (drop l f)) b) ∙ ap (λ x. x ++ b) (sym (take-add l n f))
 
-pub fills_ok : (old new : Stream) (held kept : Pending) (b m f : List ℕ) (start end n most : ℕ)
-    → take (end - start) m ≡ take (end - start) (drop start b)
-    → TakesAt old m (end - start) most (Ok n) f new
-    → held.bytes ≡ slice_range b start end → kept.bytes ≡ slice_range f 0 (end - start + n) → kept.taken ≡ held.taken + n
-    → held.taken < 2 ^ 60 → held.taken + most ≤ 2 ^ 60 → start ≤ end → end ≤ length b
-    → Fills old held (Ok n) kept new
-fills_ok old new held kept b m f start end n most front took held_is kept_is taken few bound ordered fits =
+-- what stands between two places of a front
+pub front_range : (xs ys : List ℕ) (n start end : ℕ) → take n xs ≡ ys → start ≤ end → end ≤ n
+    → take (end - start) (drop start xs) ≡ slice_range ys start end
+front_range xs ys n start end front ordered within =
     let l = end - start in
-    let same : held.bytes ≡ take l f = held_is ∙ sym front ∙ sym took.front in
+    let e : n ≡ start + (n - start) = omega arith in
+    sym (take-take l (n - start) (drop start xs) (omega arith))
+    ∙ ap (take l) (sym (ap (λ k. drop start (take k xs)) e ∙ drop-take start (n - start) xs))
+    ∙ ap (λ x. take l (drop start x)) front
+
+pub fills_ok : (old new : Stream) (held kept : Pending) (m f : List ℕ) (l n most : ℕ)
+    → take l m ≡ held.bytes → TakesAt old m l most (Ok n) f new → kept.bytes ≡ slice_range f 0 (l + n) → kept.taken ≡ held.taken + n
+    → held.taken < 2 ^ 60 → held.taken + most ≤ 2 ^ 60
+    → Fills old held (Ok n) kept new
+fills_ok old new held kept m f l n most front took kept_is taken few bound =
+    let same : held.bytes ≡ take l f = sym front ∙ sym took.front in
     let whole : kept.bytes ≡ take (l + n) f = kept_is ∙ front_is (l + n) f in
     let within : l + n ≤ length f = omega (arith, took.within, took.len) in
     record {

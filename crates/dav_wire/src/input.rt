@@ -6,7 +6,7 @@ ghost use Rattle.dav_wire.specs.Fields.{ArePlain};
 ghost use Rattle.dav_wire.specs.Reading.{Finds, Fills};
 ghost use Rattle.dav_wire.specs.declared.next.Found.TheVariants.{Whole};
 
-use crate::buffer::{ask_at, move_front, take_at};
+use crate::buffer::{ROOM, ask_at, make_room, new_buffer, take_at};
 use crate::head::{PartError, read_head};
 use crate::next::{Found, ReadError};
 use dav_io::{Client, NoMemory, Octets, Sink, Source};
@@ -18,16 +18,13 @@ use std::marker::Model;
 /// The longest head of a request, in bytes.
 const LONGEST: usize = 65_536;
 
-// One byte more, which tells a head that is too long.
-const ROOM: usize = 65_537;
-
 const MOST_FIELDS: usize = 256;
 
 /// Once so many bytes were taken, no more are.
 const MOST_TAKEN: u64 = 1_152_921_504_606_846_976;
 
-/// The bytes that were taken from a source and not yet passed, and the number of all that were taken. The buffer is
-/// made once. A contract sees the two.
+/// The bytes that were taken from a source and not yet passed, and the number of all that were taken. The memory for
+/// them is taken once; at first few bytes of it are used. A contract sees the two.
 #[derive(Drop)]
 pub struct Input {
     buffer: Vec<u8>,
@@ -38,15 +35,15 @@ pub struct Input {
 }
 
 impl Model for Input {
-    ghost use Rattle.std.specs.Prelude.{◌≡◌, ◌≤◌, ◌^◌, [], length, slice_range};
+    ghost use Rattle.std.specs.Prelude.{◌≡◌, ◌≤◌, ◌^◌, [], length, slice_range, vec_len, vec_capacity};
     ghost use Rattle.dav_wire.specs.Reading.{Pending};
 
     ghost Value = { Pending };
 
     ghost view = { λ i. record { bytes = slice_range i.buffer.items i.start i.end; taken = i.taken } };
 
-    ghost invariant = { λ i. (i.start ≤ i.end) × (i.end ≤ 65537) × (length i.buffer.items ≡ 65537)
-        × (length i.spans.items ≡ 256) × (i.taken ≤ 2 ^ 60) };
+    ghost invariant = { λ i. (i.start ≤ i.end) × (i.end ≤ vec_len i.buffer) × (vec_len i.buffer ≤ 65537)
+        × (65537 ≤ vec_capacity i.buffer) × (length i.spans.items ≡ 256) × (i.taken ≤ 2 ^ 60) };
 }
 
 impl Input {
@@ -55,7 +52,7 @@ impl Input {
         ensures { IfOk result (λ input. input ≡ record { bytes = []; taken = 0 }) }
     {
         Ok(Input {
-            buffer: vec![in alloc; 0; ROOM]?,
+            buffer: new_buffer(alloc)?,
             spans: vec![in alloc; EMPTY_HEADER_SPAN; MOST_FIELDS]?,
             start: 0,
             end: 0,
@@ -88,8 +85,7 @@ impl Input {
         if left == 0 {
             return Err(ReadError::TooMuch);
         }
-        move_front(&mut self.buffer, self.start, self.end - self.start);
-        self.end -= self.start;
+        self.end = make_room(&mut self.buffer, self.start, self.end);
         self.start = 0;
         let most = left.min(ROOM as u64) as usize;
         match take_at(source, &mut self.buffer, self.end, most) {
@@ -118,8 +114,7 @@ impl Input {
         if left == 0 {
             return Err(ReadError::TooMuch);
         }
-        move_front(&mut self.buffer, self.start, self.end - self.start);
-        self.end -= self.start;
+        self.end = make_room(&mut self.buffer, self.start, self.end);
         self.start = 0;
         let most = left.min(ROOM as u64) as usize;
         match ask_at(source, sink, &mut self.buffer, self.end, most) {
