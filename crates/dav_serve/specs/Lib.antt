@@ -1,10 +1,1 @@
 pub mod Words
-pub mod Stages
-pub mod Exchange
-pub mod Ends
-pub mod Serving
-pub mod Next
-pub mod Completing
-pub mod Bodies
-pub mod Heads
-pub mod ByTree

@@ -1,14 +1,8 @@
-//! Serving: the exchanges of a connection, the loop over its requests, and `run`, all that the program does over the
-//! outside that it is handed.
+//! `run`, all that the program does over the outside that it is handed, and the words that say what.
 #![tactic(auto)]
 
-mod asking;
-mod ending;
-mod exchange;
-pub mod laws;
 pub mod run;
 mod serving;
-mod turns;
 mod words;
 
-pub use ending::Ending;
+pub use dav_serving::Ending;

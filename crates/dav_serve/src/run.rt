@@ -6,11 +6,10 @@ ghost use Rattle.dav_local.specs.Shown.{knowledge_of};
 ghost use Rattle.dav_mirror.specs.Mirrors.{Mirrors};
 ghost use Rattle.dav_model.specs.Rules.{nothing_known};
 ghost use Rattle.dav_serve.specs.Words.{NothingSaid, mirror_said as the_mirror_said, rules_said, seed_said as the_seed_said, set_by};
-ghost use Rattle.dav_serve.specs.Serving.{EndsBy, HoldsSoFar, ServeEnds, ServedPartly, setup_with};
-ghost use Rattle.dav_serve.specs.Stages.{outside_of};
-ghost use Rattle.dav_serve.specs.Completing.{StatusIs};
+ghost use Rattle.dav_serving.specs.Serving.{EndsBy, HoldsSoFar, ServeEnds, ServedPartly, setup_with};
+ghost use Rattle.dav_serving.specs.Stages.{outside_of};
+ghost use Rattle.dav_serving.specs.Completing.{StatusIs};
 
-use crate::ending::Ending;
 use crate::serving::serve;
 use crate::words::{Options, mirror_said, options_said, seed_said};
 use dav_bench::bench;
@@ -19,6 +18,7 @@ use dav_core::Disk;
 use dav_io::{Client, Clock, NoMemory, Sink};
 pub use dav_mirror::Report;
 use dav_mirror::mirror;
+use dav_serving::Ending;
 use std::alloc::Global;
 
 // For how many paths a memory has room, and for how many directories and names together that may be absent.

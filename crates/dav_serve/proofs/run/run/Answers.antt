@@ -1,6 +1,6 @@
 use Rattle.std.proofs.Common.{◌≡◌, ◌∙◌, Option, Some, option_map, IfSome, sym, ap, subst}
 use Rattle.dav_serve.proofs.OneIsSaid.{serving_says_no_mirror, serving_says_no_seed, unheard, unsaid}
-use Rattle.dav_serve.proofs.StatusByInput.{completes}
+use Rattle.dav_serving.proofs.StatusByInput.{completes}
 use Rattle.dav_serve.proofs.run.run.Goals as goal
 
 -- what the words set, by what was read of them

@@ -1,5 +1,0 @@
-use Rattle.dav_serve.proofs.OwedAnswers.{not_so_far}
-use Rattle.dav_serve.proofs.laws.an_owed_answer_is_not_so_far.Goals as goal
-
-pub returns : goal.returns
-returns c = not_so_far

@@ -1,5 +1,0 @@
-use Rattle.dav_serve.proofs.PurgedByTree.{purged_by_tree}
-use Rattle.dav_serve.proofs.laws.purges_change_no_answer.Goals as goal
-
-pub returns : goal.returns
-returns c = purged_by_tree

@@ -1,5 +1,0 @@
-use Rattle.dav_serve.proofs.ServedByTree.{served_by_tree}
-use Rattle.dav_serve.proofs.laws.served_answers_are_those_of_the_tree.Goals as goal
-
-pub returns : goal.returns
-returns c = served_by_tree

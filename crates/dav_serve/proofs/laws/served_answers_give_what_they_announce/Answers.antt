@@ -1,5 +1,0 @@
-use Rattle.dav_serve.proofs.ServedGiveAnnounced.{served_give}
-use Rattle.dav_serve.proofs.laws.served_answers_give_what_they_announce.Goals as goal
-
-pub returns : goal.returns
-returns c = served_give
