@@ -32,10 +32,11 @@ class Played(Peer):
         super().__init__([], ())
         settings = Settings()
         settings.autoindex, settings.buffer = True, buffer
-        self.player, self.number = Player(Store(disk, Memory(), False, False), settings), None
+        self.player, self.number, self.last = Player(Store(disk, Memory(), False, False), settings), None, None
 
     def get(self, path, fields):
         self.note(path, fields)
+        self.last = path
         if self.number is not None:
             self.player.step(("abandon", self.number))
         self.player.step(("turn",))
@@ -52,20 +53,20 @@ class Played(Peer):
 
 def mirrored(disk):
     """The status of a fetch, what is written of it, and what it came to, in words."""
-    copy = [[], {}]
-    fetch = Fetch(copy, MOST, Played(disk))
+    copy, peer = [[], {}], Played(disk)
+    fetch = Fetch(copy, MOST, peer)
     ended = fetch.run()
+    if ended == "peer":
+        return 5, b"", f"a call of the disk failed in the body of {link_of(peer.last).decode()}"
     if ended != "ok":
-        return 5 if ended == "peer" else 8, b"", in_words(ended, fetch.ended)
+        return 8, b"", in_words(fetch.ended)
     links = {path: link_of(b"".join(b"/" + name for name in path)) for path in copy[1]}
     lines = b"".join(b"%d %s\n" % (copy[1][path][1], links[path]) for path in sorted(copy[1]))
     return 0, lines, f"{len(links)} files, {sum(kept[1] for kept in copy[1].values())} bytes"
 
 
-def in_words(ended, why):
+def in_words(why):
     """Why a fetch ended, and at which path."""
-    if ended == "peer":
-        return "a call of the disk failed in a body"
     what, path, *numbers = why
     return {"refused": "{} is answered {}", "no page": "{} is answered by no index page", "too long": "{} is too long, or its page",
             "bad reply": "{} is answered by what can't be of it", "short": "{} ends behind {} of {} bytes",
@@ -229,6 +230,8 @@ def reports():
                   ("", "", "", "cut d/g 3"), ("", "", "", "", "remove f")):
         yield row(*listed, *(f"turn {text}".strip() for text in turns)) + " | report"
     yield row("file %25%C3%A9", "turn", "turn remove %25%C3%A9") + " | report"
+    encoded = ("dir d", "file d/%25%C3%A9 a")
+    yield row(*encoded, f"disk-fails {calls_of(encoded)}") + " | report"
     for words in ("folder,serve", "folder,bench,0", "folder,mirror,y", ""):
         yield f"words {words} | report"
 

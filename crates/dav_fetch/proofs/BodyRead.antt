@@ -15,6 +15,7 @@ read_none s = record {
   counts = omega arith;
   told = both_same s.told s.told (Came []) (λ v. (same_besides v.world, refl)) refl;
   stands = both_same s.world s.world SameBesidesOpens same_besides refl;
+  path = refl;
 }
 
 came_then : (a b : List ℕ) (u v w : Seen) → Came a u v → Came b v w → Came (a ++ b) u w
@@ -26,6 +27,7 @@ read_more s m t came buffer n r g = record {
   told = both_then s.told m.told t.told (Came came) (λ v w. Came (take n buffer) v w × (n ≡ 0 → v.left ≡ [])) (Came (came ++ take n buffer))
       (λ u v w p q. came_then came (take n buffer) u v w p q.0) r.told g.is.1;
   stands = both_then s.world m.world t.world SameBesidesOpens SameBesidesOpens SameBesidesOpens same_besides_then r.stands g.stands;
+  path = g.path ∙ r.path;
 }
 
 -- no more than is due is kept of a piece

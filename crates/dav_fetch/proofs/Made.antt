@@ -18,7 +18,7 @@ visit_of s m path asked got g came = record { path = path; asked = asked; world 
 
 pub visited : (s m t : PeerState) (path : WebPath) (asked : List Field) (got : Got) (g : Gets s path asked (Ok got) m) (came : List ℕ) → IsAskable path asked → ReadOn m came t
     → Visited s (visit_of s m path asked got g came) t
-visited s m t path asked got g came askable r = record { at = m; counts = g.counts; is = g.is.1; stays = g.stays askable; turns = g.turns; owns = g.owns; goes = g.goes askable; read = r }
+visited s m t path asked got g came askable r = record { at = m; counts = g.counts; is = g.is.1; stays = g.stays askable; turns = g.turns; owns = g.owns; goes = g.goes askable; names = g.names; read = r }
 
 -- the requests of a fetch
 pub page_askable : (names : Names) (path : WebPath) (asked : List Field) → path ≡ dir_path names → IsPath path → asked ≡ [] → IsAskable path asked

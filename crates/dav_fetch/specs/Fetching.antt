@@ -1,6 +1,6 @@
 -- What `fetch` does: the visits that it made, one after the other, what the copy is by them, and why it ended.
-use Rattle.std.specs.Prelude.{◌≡◌, ◌≢◌, ◌+◌, ◌<◌, ◌≤◌, ◌⊎◌, ℕ, List, [], ◌∷◌, ◌++◌, length, Bool, true, false, Option, Some, Result, Ok, Err}
-use Rattle.std.specs.Option.{option_to_list}
+use Rattle.std.specs.Prelude.{◌≡◌, ◌≢◌, ◌+◌, ◌<◌, ◌≤◌, ◌⊎◌, ℕ, List, [], ◌∷◌, ◌++◌, length, Bool, true, false, Option, None, Some, Result, Ok, Err}
+use Rattle.std.specs.Option.{ForSome, option_to_list}
 use Rattle.std.specs.List.{find}
 use Rattle.std.specs.List.Sorted.{IsStrictlySortedBy}
 use Rattle.dav_io.specs.Counts.{Rose}
@@ -29,6 +29,7 @@ pub record Visited (s : PeerState) (visit : Visit) (t : PeerState) : Type 0 wher
   pub turns : TurnsOnce s at
   pub owns : TellsOwn at
   pub goes : Both s.world at.world GoesOn
+  pub names : ForSome at.path (λ path. path ≡ visit.path)
   pub read : ReadOn at visit.came t
 
 abbrev pub Visits : PeerState → List Visit → PeerState → Type 0
@@ -88,7 +89,7 @@ link_is_short path = length (link_of (shown path)) ≤ links_most
 abbrev pub NotAsked : WebPath → ℕ → ℕ → MirrorError → PeerState → PeerState → Type 0
 NotAsked path made most (TooLong p) s t = (p ≡ path) × (made < most) × (link_is_short path → ⊥) × (t ≡ s)
 NotAsked path made most (Budget m) s t = (made ≡ most) × (m ≡ made) × (t ≡ s)
-NotAsked path made most PeerFailed s t = link_is_short path × (made < most) × Rose s.faults t.faults
+NotAsked path made most PeerFailed s t = link_is_short path × (made < most) × Rose s.faults t.faults × (t.path ≡ None)
 NotAsked path made most NoMemory s t = (t ≡ s) ⊎ ((made < most) × link_is_short path × (s.faults ≤ t.faults))
 NotAsked path made most (Refused p status) s t = ⊥
 NotAsked path made most (NotAPage p) s t = ⊥
@@ -106,7 +107,7 @@ PageEnds dir visit (Refused p status) s t = (p ≡ dir_path dir) × (status ≡ 
 PageEnds dir visit (TooLong p) s t = (p ≡ dir_path dir) × (visit.got.status ≡ 200) × (page_most < length visit.came) × (t ≡ s)
 PageEnds dir visit (NotAPage p) s t = (p ≡ dir_path dir) × (visit.got.status ≡ 200) × IsOver t
     × (length visit.came ≤ page_most) × ((found : List Found) → IsPageOf dir visit found → ⊥) × (t ≡ s)
-PageEnds dir visit PeerFailed s t = (visit.got.status ≡ 200) × Rose s.faults t.faults
+PageEnds dir visit PeerFailed s t = (visit.got.status ≡ 200) × Rose s.faults t.faults × (t.path ≡ s.path)
 PageEnds dir visit NoMemory s t = s.faults ≤ t.faults
 PageEnds dir visit (Budget m) s t = ⊥
 PageEnds dir visit (BadReply p) s t = ⊥
@@ -118,7 +119,7 @@ FileEnds path refuses visit (Refused p status) s t = (p ≡ file_path path) × (
 FileEnds path spoils visit (BadReply p) s t = (p ≡ file_path path) × (t ≡ s)
 FileEnds path (gives f n) visit (Short p got announced) s t = (p ≡ file_path path) × (got ≡ length visit.came)
     × (announced ≡ n) × (got < n) × IsOver t × (t ≡ s)
-FileEnds path (gives f n) visit PeerFailed s t = (length visit.came < n) × Rose s.faults t.faults
+FileEnds path (gives f n) visit PeerFailed s t = (length visit.came < n) × Rose s.faults t.faults × (t.path ≡ s.path)
 FileEnds path worth visit NoMemory s t = s.faults ≤ t.faults
 FileEnds path worth visit e s t = ⊥
 

@@ -47,6 +47,8 @@ pub record PeerState : Type 0 where
   pub told : Option Seen
   -- the world that it stands on, where one is known: also behind a reply of which it tells nothing
   pub world : Option World
+  -- the path of its last reply, where it names it
+  pub path : Option WebPath
   pub faults : ℕ
 
 -- What its calls came to: how many replies it counts; how many failures; and how many turns the outside had, where it asks
@@ -124,6 +126,12 @@ TurnsOnce s t = (v w : Seen) → s.told ≡ Some v → t.told ≡ Some w → Goe
 abbrev pub TellsOwn : PeerState → Type 0
 TellsOwn t = (now : Seen) → t.told ≡ Some now → t.world ≡ Some now.world
 
+-- What is named behind a `get`: this path, where it is named at all, and none where the call failed.
+abbrev pub Names : WebPath → Result Got PeerFault → Option WebPath → Type 0
+Names path (Ok got) named = ForSome named (λ at. at ≡ path)
+Names path (Err Failed) named = named ≡ None
+Names path (Err NoMemory) named = Unit {0}
+
 pub record Gets (s : PeerState) (path : WebPath) (asked : List Field) (result : Result Got PeerFault) (t : PeerState) : Type 0 where
   pub counts : s.faults ≤ t.faults
   pub is : IsGot path asked s result t
@@ -132,6 +140,7 @@ pub record Gets (s : PeerState) (path : WebPath) (asked : List Field) (result : 
   -- whether it tells or not
   pub owns : OnOk result (TellsOwn t)
   pub goes : IsAskable path asked → OnOk result (Both s.world t.world GoesOn)
+  pub names : Names path result t.path
 
 -- The world stays. These bytes of the body came; none come only at its end.
 abbrev pub Came : List ℕ → Seen → Seen → Type 0
@@ -146,6 +155,7 @@ pub record Gives (s : PeerState) (into : List ℕ) (result : Result ℕ PeerFaul
   pub counts : s.faults ≤ t.faults
   pub is : Gave s into result t
   pub stands : Both s.world t.world SameBesidesOpens
+  pub path : t.path ≡ s.path
 
 -- ---- what calls come to
 

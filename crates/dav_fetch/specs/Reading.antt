@@ -12,6 +12,7 @@ pub record ReadOn (s : PeerState) (came : List ℕ) (t : PeerState) : Type 0 whe
   pub counts : s.faults ≤ t.faults
   pub told : Both s.told t.told (Came came)
   pub stands : Both s.world t.world SameBesidesOpens
+  pub path : t.path ≡ s.path
 
 -- the end of the body was met, where the peer tells
 abbrev pub IsOver : PeerState → Type 0
@@ -21,7 +22,7 @@ IsOver t = (v : Seen) → t.told ≡ Some v → v.left ≡ []
 abbrev pub EndsAs : Ended → ℕ → List ℕ → PeerState → PeerState → Type 0
 EndsAs Over due came m t = (t ≡ m) × IsOver m × (length came < due)
 EndsAs Full due came m t = (t ≡ m) × (due ≤ length came)
-EndsAs Failed due came m t = Rose m.faults t.faults × (length came < due)
+EndsAs Failed due came m t = Rose m.faults t.faults × (length came < due) × (t.path ≡ m.path)
 EndsAs NoMemory due came m t = Unit {0}
 
 -- A body was read up to so many bytes, and gave these.

@@ -7,7 +7,7 @@ use Rattle.dav_fetch.specs.declared.peer.Got.{Got}
 use Rattle.dav_fetch.specs.Peer.{Calls, PeerState}
 
 abbrev pub peer_state : MemPeer → PeerState
-peer_state p = record { told = None; world = None; faults = p.faults.met }
+peer_state p = record { told = None; world = None; path = None; faults = p.faults.met }
 
 -- It doesn't count its replies, each fault that it meets is a failure, and it asks no disk.
 abbrev pub peer_calls : MemPeer → Calls

@@ -1,5 +1,5 @@
 -- What the steps of a fetch come to, each by its result.
-use Rattle.std.specs.Prelude.{◌≡◌, ◌≤◌, ◌⊎◌, ℕ, List, [], ◌∷◌, length, drop, Result, Ok, Err}
+use Rattle.std.specs.Prelude.{◌≡◌, ◌≤◌, ◌⊎◌, ℕ, List, [], ◌∷◌, length, drop, None, Result, Ok, Err}
 use Rattle.dav_io.specs.Counts.{Rose}
 use Rattle.dav_core.specs.Path.{Names}
 use Rattle.dav_fetch.specs.declared.error.MirrorError.{MirrorError}
@@ -11,7 +11,7 @@ use Rattle.dav_fetch.specs.Walk.{Pages, Visit, Way, start}
 
 -- A request that may be made got no answer.
 abbrev pub NotGot : MirrorError → PeerState → PeerState → Type 0
-NotGot PeerFailed s t = Rose s.faults t.faults
+NotGot PeerFailed s t = Rose s.faults t.faults × (t.path ≡ None)
 NotGot NoMemory s t = s.faults ≤ t.faults
 NotGot (Refused p status) s t = ⊥
 NotGot (NotAPage p) s t = ⊥

@@ -19,7 +19,7 @@ use Rattle.dav_fetch.specs.Walk.{Visit}
 abbrev pub BytesEnd : WebPath → ℕ → List ℕ → Result Unit MirrorError → PeerState → PeerState → Type 0
 BytesEnd path n came (Ok x) s t = (n ≤ length came) × (t ≡ s)
 BytesEnd path n came (Err (Short p got announced)) s t = (p ≡ path) × (got ≡ length came) × (announced ≡ n) × (got < n) × IsOver t × (t ≡ s)
-BytesEnd path n came (Err PeerFailed) s t = (length came < n) × Rose s.faults t.faults
+BytesEnd path n came (Err PeerFailed) s t = (length came < n) × Rose s.faults t.faults × (t.path ≡ s.path)
 BytesEnd path n came (Err NoMemory) s t = s.faults ≤ t.faults
 BytesEnd path n came (Err e) s t = ⊥
 

@@ -18,7 +18,7 @@ pub struct Canned {
 pub type Replies = Items<Canned>;
 
 /// A peer that gives its replies in order, whatever it is asked for, and then 404 without fields and body. It fails at
-/// the calls of the numbers given, of `get` and of `piece` together, counted from 1. It tells no world.
+/// the calls of the numbers given, of `get` and of `piece` together, counted from 1. It tells no world, and names no path.
 #[derive(Drop)]
 pub struct MemPeer {
     alloc: Global,
@@ -38,7 +38,7 @@ impl MemPeer {
     pub fn new(alloc: Global, replies: Replies, fail: Vec<u64>) -> Self
         ensures coming { coming result ≡ replies }
         ensures left { left_in result ≡ [] }
-        ensures state { ⟦<MemPeer as Peer>⟧.state result ≡ record { told = None; world = None; faults = 0 } }
+        ensures state { ⟦<MemPeer as Peer>⟧.state result ≡ record { told = None; world = None; path = None; faults = 0 } }
     {
         let mut coming = replies.into_vec();
         coming.reverse();

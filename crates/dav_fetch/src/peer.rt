@@ -25,7 +25,7 @@ pub enum PeerFault {
 /// A server, asked by path.
 pub trait Peer {
     /// The world of its last reply and what is left of that reply's body, where it tells them; the world that it stands
-    /// on, where one is known; and its count of faults.
+    /// on, where one is known; the path of its last reply, where it names it; and its count of faults.
     ghost state: { Self → PeerState };
 
     /// How many replies and how many failures it counts, and how many turns the outside had, where it asks a disk.

@@ -1,21 +1,24 @@
--- Where a fetch ends because its peer failed, the peer's count rose in it.
+-- Where a fetch ends because its peer failed, the peer's count rose in it, and the last reply is the one that broke.
 use Rattle.std.specs.Prelude.{IsErr}
-use Rattle.std.proofs.Common.{◌≡◌, ◌==◌, ◌^◌, min, cond, Bool, true, false, inl, inr, ◌≤◌, ◌+◌, ℕ, List, [], ◌∷◌, Option, Result, Err, refl, sym, ap, subst, arith, length, eqb-true}
+use Rattle.std.proofs.Common.{◌≡◌, ◌==◌, ◌^◌, min, cond, Bool, true, false, inl, inr, ◌≤◌, ◌+◌, ℕ, List, [], ◌∷◌, ◌++◌, Option, None, Some, Result, Err, refl, sym, ap, subst, ◌∙◌, arith, length, append_assoc, eqb-true}
 use Rattle.dav_io.specs.Counts.{Rose}
 use Rattle.dav_io.specs.Outside.{Stream}
 use Rattle.dav_io.specs.declared.failure.NoMemory.{NoMemory}
+use Rattle.dav_core.specs.DavPath.{WebPath}
 use Rattle.dav_core.specs.Disk.{DiskState}
 use Rattle.dav_core.specs.Path.{Names}
 use Rattle.dav_fetch.specs.declared.copied.Copied.{Copied}
 use Rattle.dav_fetch.specs.declared.copied.Kept.{Kept}
 use Rattle.dav_fetch.specs.declared.error.MirrorError.{MirrorError}
 use Rattle.dav_fetch.specs.declared.error.MirrorError.TheVariants.{Peer as PeerFailed, Refused, Short, Budget, NoMemory as LacksMemory}
-use Rattle.dav_fetch.specs.Fetching.{AtFile, AtPage, Fetched, FileEnds, Goes, WholeVisits}
+use Rattle.dav_fetch.specs.Fetching.{AtFile, AtPage, Fetched, FileEnds, Goes, Visited, WholeVisits, visits_of}
 use Rattle.dav_fetch.specs.Judging.{Use, gives, keeps, refuses, spoils}
 use Rattle.dav_fetch.specs.Peer.{PeerState}
 use Rattle.dav_fetch.specs.Walk.{Visit, Way}
-use Rattle.dav_mirror.specs.Mirrors.{EndsBy, Mirrors, status_of}
-use Rattle.dav_mirror.specs.Seen.{replies_in}
+use Rattle.dav_mirror.specs.Mirrors.{BrokeAt, EndsBy, Mirrors, Reports, status_of}
+use Rattle.dav_mirror.specs.Report.{end_report}
+use Rattle.dav_mirror.specs.Seen.{named_in, path_of, replies_in}
+use Rattle.dav_mirror.specs.declared.play_peer.Heard.{Heard}
 use Rattle.dav_mirror.specs.declared.report.Report.{Report}
 use Rattle.dav_io.proofs.Rising.{rose_before}
 use Rattle.dav_fetch.proofs.Quiet.{visit_counts, visits_count}
@@ -66,6 +69,81 @@ ends_by_error (Refused p status) copy before after old new result same is rose =
 ends_by_error (Short p got announced) copy before after old new result same is rose = (same, is)
 ends_by_error (Budget made) copy before after old new result same is rose = (same, is)
 ends_by_error other copy before after old new result same is rose = (same, is)
+
+-- ---- which reply broke
+
+abbrev EndsAt : WebPath → List Visit → Type 0
+EndsAt path visits = (before : List Visit) × (visit : Visit) × (visits ≡ before ++ visit ∷ []) × (visit.path ≡ path)
+
+-- what is named behind a visit is its path
+visit_named : (s m t : PeerState) (visit : Visit) (path : WebPath) → Visited s visit m → t.path ≡ m.path → t.path ≡ Some path → visit.path ≡ path
+visit_named s m t visit path visited same named = sym (visited.names path (sym visited.read.path ∙ sym same ∙ named))
+
+none_named : (path : WebPath) (o : Option WebPath) → o ≡ None → o ≡ Some path → ⊥
+none_named path o none some = cc
+
+file_same : (names : Names) (worth : Use) (visit : Visit) (s t : PeerState) → FileEnds names worth visit PeerFailed s t → t.path ≡ s.path
+file_same names (gives f n) visit s t e = e.2
+file_same names keeps visit s t e = absurd e
+file_same names refuses visit s t e = absurd e
+file_same names spoils visit s t e = absurd e
+
+file_broke : (left : List Names) (old got : List Kept) (made most : ℕ) (s t : PeerState) (last : List Visit) (new : List Kept) (path : WebPath) → AtFile left old got made most PeerFailed s last t new → t.path ≡ Some path → EndsAt path last
+file_broke [] old got made most s t last new path e named = absurd e
+file_broke (names ∷ more) old got made most s t last new path (inl e) named = absurd (none_named path t.path e.not.3 named)
+file_broke (names ∷ more) old got made most s t last new path (inr e) named =
+    ([], e.visit, e.one, visit_named s e.at t e.visit path e.visited (file_same names e.worth e.visit e.at t e.ends) named)
+
+page_broke : (dir : Names) (made most : ℕ) (s t : PeerState) (last : List Visit) (path : WebPath) → AtPage dir made most PeerFailed s last t → t.path ≡ Some path → EndsAt path last
+page_broke dir made most s t last path (inl (none, e)) named = absurd (none_named path t.path e.3 named)
+page_broke dir made most s t last path (inr (visit, m, one, visited, is, e)) named = ([], visit, one, visit_named s m t visit path visited e.2 named)
+
+ends_behind : (path : WebPath) (front rest : List Visit) → EndsAt path rest → EndsAt path (front ++ rest)
+ends_behind path front rest (before, visit, are, to) = (front ++ before, visit, ap (λ l. front ++ l) are ∙ sym (append_assoc front before (visit ∷ [])), to)
+
+goes_broke : (due : List Names) (way : Way) (made most : ℕ) (old : Copied) (s t : PeerState) (rest : List Visit) (new : Copied) (path : WebPath) → Goes due way made most old s rest (Err PeerFailed) t new → t.path ≡ Some path → EndsAt path rest
+goes_broke [] way made most old s t rest new path (inl e) named =
+    subst (EndsAt path) (sym e.parts) (ends_behind path e.visits e.last (file_broke e.left old.files e.got (made + length e.visits) most e.mid t e.last new.files path e.ends named))
+goes_broke [] way made most old s t rest new path (inr e) named = absurd (no_want PeerFailed refl e.lacks)
+goes_broke (dir ∷ due) way made most old s t rest new path e named = page_broke dir made most s t rest path e.0 named
+
+fetch_broke : (s t : PeerState) (old new : Copied) (most : ℕ) (path : WebPath) (f : Fetched s old most (Err PeerFailed) t new) → t.path ≡ Some path → BrokeAt path (visits_of f) t
+fetch_broke s t old new most path f named =
+    let ends = ends_behind path f.pages f.rest (goes_broke f.way.due f.way (length f.pages) most old f.mid t f.rest new path f.goes named) in
+    record { before = ends.0; visit = ends.1; are = ends.2; to = ends.3; named = named }
+
+-- the same of an error that is known to be that
+pub error_broke : (e : MirrorError) (s t : PeerState) (old new : Copied) (most : ℕ) (path : WebPath) (f : Fetched s old most (Err e) t new) → e ≡ PeerFailed → t.path ≡ Some path → BrokeAt path (visits_of f) t
+error_broke PeerFailed s t old new most path f is named = fetch_broke s t old new most path f named
+error_broke LacksMemory s t old new most path f is named = cc
+error_broke (Refused p status) s t old new most path f is named = cc
+error_broke (Short p got announced) s t old new most path f is named = cc
+error_broke (Budget made) s t old new most path f is named = cc
+error_broke other s t old new most path f is named = cc
+
+-- A peer that refused nothing, and failed, has a last reply.
+pub reply_named : (heard : Heard) (body : Option ℕ) (failures refused : ℕ) → (path_of heard ≡ None → (body ≡ None) × (failures ≡ refused)) → refused ≡ 0 → Rose 0 failures
+    → (path : WebPath) × (path_of heard ≡ Some path) × (named_in heard refused ≡ Some path)
+reply_named heard body failures refused first none rose = by (path_of heard) refl
+  where
+    failed : Rose 0 failures → failures ≡ refused → ⊥
+    failed (inl more) same = omega (arith, more, same, none)
+    failed (inr full) same = omega (arith, full, same, none)
+
+    by : (o : Option WebPath) → path_of heard ≡ o → (path : WebPath) × (path_of heard ≡ Some path) × (named_in heard refused ≡ Some path)
+    by None e = absurd (failed rose (first e).1)
+    by (Some path) e = (path, e, ap (named_in heard) none ∙ e)
+
+-- what is told of an end
+pub reports_end : (e : MirrorError) (copy : Copied) (visits : List Visit) (last : PeerState) (to : Option WebPath) (report : Option Report) → report ≡ Some (end_report e to)
+    → (e ≡ PeerFailed → (path : WebPath) × (to ≡ Some path) × BrokeAt path visits last) → Reports (Err e) copy visits last report
+reports_end PeerFailed copy visits last to report is broke =
+    let (path, to_is, at) = broke refl in (path, is ∙ ap (λ o. Some (end_report PeerFailed o)) to_is, at)
+reports_end LacksMemory copy visits last to report is broke = is
+reports_end (Refused p status) copy visits last to report is broke = is
+reports_end (Short p got announced) copy visits last to report is broke = is
+reports_end (Budget made) copy visits last to report is broke = is
+reports_end other copy visits last to report is broke = is
 
 -- So few requests never ask the player for all its replies.
 pub none_refused : (given refused : ℕ) → replies_in given refused ≤ 1000000 → refused ≡ 0

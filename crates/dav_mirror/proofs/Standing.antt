@@ -60,7 +60,7 @@ record IsTold (a : Stage) (v : Seen) : Type 0 where
 peer_rules_on : (heard : Heard) (rules : Rules) (tree : List Row) → tells heard rules tree ≡ true → are_peer_rules rules ≡ true
 peer_rules_on Unasked rules tree e = e
 peer_rules_on (AskedFor path) rules tree e = (and_parts (are_peer_rules rules) (is_clear_at path tree) e).0
-peer_rules_on Unheard rules tree e = cc
+peer_rules_on (Unheard path) rules tree e = cc
 
 is_told : (heard : Heard) (kept : List ℕ) (body : Option ℕ) (a : Stage) (v : Seen) → seen_of heard kept body a ≡ Some v → IsTold a v
 is_told heard kept body a v seen = by a.at.told refl seen

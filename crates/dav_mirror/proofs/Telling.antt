@@ -2,6 +2,7 @@
 use Rattle.std.proofs.Common.{◌≡◌, ◌≢◌, inl, inr, ◌≤◌, ◌<◌, ◌+◌, ◌==◌, ◌&&◌, ◌||◌, ◌++◌, ℕ, List, [], ◌∷◌, length, take, drop, min, replicate, Bool, true, false, cond, not, is_some, Option, None, Some, Result, Ok, Err, refl, sym, ap, ap₂, subst, ◌∙◌, arith, append_assoc, eqb-true, true≢false}
 use Rattle.std.proofs.lemmas.Bool.{and_from, and_parts, not-true}
 use Rattle.std.specs.List.{AllByRecursion}
+use Rattle.std.specs.Option.{ForSome}
 use Rattle.http.specs.Request.{head_of, body_of}
 use Rattle.dav_io.specs.Counts.{Rose, greatest}
 use Rattle.dav_io.specs.Told.{Both}
@@ -47,7 +48,7 @@ use Rattle.dav_fetch.specs.declared.peer.PeerFault.TheVariants.{Failed as PeerFa
 use Rattle.dav_fetch.specs.Peer.{Came, GoesOn, Gets as GetsPeer, Gives as GivesPeer, IsAskable, IsGot, MeetsNone, PeerState, RepliesIn, Seen, StaysStill, TurnsOnce, body_in, part_bytes, peer_rules, peer_settings}
 use Rattle.dav_fetch.proofs.PollBytes.{poll_bytes}
 use Rattle.dav_mirror.specs.Asking.{IsAskedFor, IsGet, IsHeard}
-use Rattle.dav_mirror.specs.Seen.{are_peer_rules, heard_by, is_clear_at, is_none, is_on, is_peer_set, left_at, peer_in, seen_in, seen_of, tells}
+use Rattle.dav_mirror.specs.Seen.{are_peer_rules, heard_by, is_clear_at, is_none, is_on, is_peer_set, left_at, named_in, path_of, peer_in, seen_in, seen_of, tells}
 use Rattle.dav_mirror.specs.declared.play_peer.Heard.{Heard}
 use Rattle.dav_mirror.specs.declared.play_peer.Heard.TheVariants.{Asked as AskedFor, Unheard}
 
@@ -367,7 +368,7 @@ module _ (p q : Playing) (s t : Point) (request : Asked) (now : Moment) (answer 
       where
         by : (y : Bool) → heard ≡ y → Told (heard_by y path)
         by true h = by_rules h (are_peer_rules p.rules) refl
-        by false h = (None, seen_none (tells Unheard q.rules) [] (q.left number) t.told (λ tree. refl))
+        by false h = (None, seen_none (tells (Unheard path) q.rules) [] (q.left number) t.told (λ tree. refl))
 
 -- ---- a poll
 
@@ -469,6 +470,23 @@ told_world heard kept body a v e = by a.at.told refl e
         by_test true e = is ∙ some_world (record { world = w; left = kept ++ body_in w (left_at body a.playing) }) v e
         by_test false e = cc
 
+-- What is named behind a reply is its path.
+named_by : (heard : Bool) (told : Heard) (path : WebPath) (own : ℕ) → told ≡ heard_by heard path → ForSome (named_in told own) (λ at. at ≡ path)
+named_by heard told path own told_is = subst (λ h. ForSome (named_in h own) (λ at. at ≡ path)) (sym told_is) (by (own == 0) heard)
+  where
+    by : (none heard : Bool) → ForSome (cond none (path_of (heard_by heard path)) None) (λ at. at ≡ path)
+    by true true at e = cc
+    by true false at e = cc
+    by false heard at e = cc
+
+-- and nothing behind one that was refused
+none_named : (heard : Heard) (own : ℕ) → 0 < own → named_in heard own ≡ None
+none_named heard own some = by (own == 0) refl
+  where
+    by : (b : Bool) → (own == 0) ≡ b → cond b (path_of heard) None ≡ None
+    by true e = let none : own ≡ 0 = eqb-true own 0 e in absurd (omega (arith, some, none))
+    by false e = refl
+
 -- a reply was given to a request that a player was asked behind other steps
 pub gets_reply : (s : PeerState) (m b : Stage) (request : Asked) (now : Moment) (answer : Answer) (path : WebPath) (asked : List Field) (heard : Bool) (told : Heard) (own : ℕ) (kept : List ℕ)
     (status : ℕ) (headers : List Field) (number : ℕ) → told ≡ heard_by heard path → kept ≡ [] → IsAskedFor path asked request heard → s.faults ≤ m.at.faults + own → answer ≡ Replied status headers number
@@ -482,6 +500,7 @@ gets_reply s m b request now answer path asked heard told own kept status header
   turns = turns;
   owns = told_world told kept (Some number) b;
   goes = goes;
+  names = named_by heard told path own told_is;
 }
 
 not_zero : (n a b : ℕ) → n ≡ min a b → 0 < a → 0 < b → n ≡ 0 → ⊥
@@ -501,6 +520,7 @@ gives_kept heard body own a kept into more n cut count some room = record {
         (λ v w came. (came, λ zero. absurd (not_zero n (length kept) (length into) count some room zero))) (gave_kept heard body kept (take n into) more a cut),
   );
   stands = both_same a.at.told a.at.told SameBesidesOpens same_besides refl;
+  path = refl;
 }
 
 -- nothing is left where there was no reply
@@ -513,6 +533,7 @@ gives_none heard own a kept into none = subst (λ k. GivesPeer (peer_in heard k 
         (both_same a.at.told a.at.told SameBesidesOpens same_besides refl) (λ v w old new same. ((same, refl), λ zero. refl)),
   );
   stands = both_same a.at.told a.at.told SameBesidesOpens same_besides refl;
+  path = refl;
 })
 
 -- what a poll of the last reply's body gives, where nothing is kept of the last piece
@@ -533,6 +554,7 @@ module _ (heard : Heard) (body own : ℕ) (at : Option ℕ) (polled : at ≡ Som
           (polled_piece heard body a.playing b.playing a.at b.at piece (take n into) more cut x holds),
     );
     stands = x.leaves;
+    path = refl;
   })
 
   pub gives_end : Stepped a (Poll body) (Ok End) b → (more : List ℕ) → more ≡ [] → GivesPeer (peer_in heard kept at own a) into (Ok 0) (peer_in heard more at own b)
@@ -544,6 +566,7 @@ module _ (heard : Heard) (body own : ℕ) (at : Option ℕ) (polled : at ≡ Som
           (λ v w came. (came.0, λ zero. came.1)) (polled_end heard body a.playing b.playing a.at b.at x),
     );
     stands = x.leaves;
+    path = refl;
   }))
 
   pub gives_broken : Stepped a (Poll body) (Ok Broken) b → (more : List ℕ) → more ≡ [] → GivesPeer (peer_in heard kept at own a) into (Err PeerFailed) (peer_in heard more at own b)
@@ -551,6 +574,7 @@ module _ (heard : Heard) (body own : ℕ) (at : Option ℕ) (polled : at ≡ Som
     counts = omega (arith, x.goes.faults);
     is = (rose_more (a.at.faults + own) a.at.faults b.at.faults own (omega arith) (polled_broken heard body a.playing b.playing a.at b.at x).0, (polled_broken heard body a.playing b.playing a.at b.at x).1);
     stands = x.leaves;
+    path = refl;
   }))
 
   pub gives_refused : (e : NoMemory) → Stepped a (Poll body) (Err e) b → (more : List ℕ) → more ≡ [] → GivesPeer (peer_in heard kept at own a) into (Err LacksMemory) (peer_in heard more at own b)
@@ -558,6 +582,7 @@ module _ (heard : Heard) (body own : ℕ) (at : Option ℕ) (polled : at ≡ Som
     counts = omega (arith, x.goes.faults);
     is = polled_refused heard body a.playing b.playing a.at b.at x e;
     stands = x.makes e;
+    path = refl;
   }))
 
 -- A poll is answered by a piece, the end or a break.
@@ -619,8 +644,20 @@ is_replied a b request now answer (x, holds) none = none _ _ _ x.is
 -- A call that was refused for the count of replies raised a count of its own.
 pub gets_refused : (heard : Heard) (kept : List ℕ) (body : Option ℕ) (own more : ℕ) (a : Stage) (path : WebPath) (asked : List Field) → own ≤ more → Rose own more
     → GetsPeer (peer_in heard kept body own a) path asked (Err PeerFailed) (peer_in heard kept body more a)
-gets_refused heard kept body own more a path asked less rose = record { counts = omega (arith, less); is = by rose; stays = λ askable. tt; turns = tt; owns = tt; goes = λ askable. tt }
+gets_refused heard kept body own more a path asked less rose = record {
+  counts = omega (arith, less);
+  is = by rose;
+  stays = λ askable. tt;
+  turns = tt;
+  owns = tt;
+  goes = λ askable. tt;
+  names = none_named heard more (some rose);
+}
   where
+    some : Rose own more → 0 < more
+    some (inl lt) = omega (arith, lt)
+    some (inr most) = omega (arith, most)
+
     by : Rose own more → Rose (a.at.faults + own) (a.at.faults + more)
     by (inl lt) = inl (omega (arith, lt))
     by (inr most) = inr (omega (arith, most))
@@ -635,21 +672,22 @@ one_rose own less = by (own == greatest) refl
 
 -- Memory was refused, or what was asked no request can say: nothing is told of a reply.
 pub gets_lacking : (s t : PeerState) (path : WebPath) (asked : List Field) → s.faults ≤ t.faults → GetsPeer s path asked (Err LacksMemory) t
-gets_lacking s t path asked less = record { counts = less; is = tt; stays = λ askable. tt; turns = tt; owns = tt; goes = λ askable. tt }
+gets_lacking s t path asked less = record { counts = less; is = tt; stays = λ askable. tt; turns = tt; owns = tt; goes = λ askable. tt; names = tt }
 
-pub gets_unheard : (s : PeerState) (told : Heard) (kept : List ℕ) (own : ℕ) (a : Stage) (path : WebPath) (asked : List Field) (got : Got) → told ≡ Unheard → s.faults ≤ a.at.faults + own
+pub gets_unheard : (s : PeerState) (told : Heard) (kept : List ℕ) (own : ℕ) (a : Stage) (path : WebPath) (asked : List Field) (got : Got) → told ≡ Unheard path → s.faults ≤ a.at.faults + own
     → (IsAskable path asked → ⊥) → GetsPeer s path asked (Ok got) (peer_in told kept None own a)
 gets_unheard s told kept own a path asked got unheard less never = subst (λ h. GetsPeer s path asked (Ok got) (peer_in h kept None own a)) (sym unheard) (record {
   counts = less;
   is = (None, none);
   stays = λ askable. absurd (never askable);
   turns = λ v w before after. absurd (nothing w (sym after ∙ none));
-  owns = told_world Unheard kept None a;
+  owns = told_world (Unheard path) kept None a;
   goes = λ askable. absurd (never askable);
+  names = named_by false (Unheard path) path own refl;
 })
   where
-    none : seen_in (tells Unheard a.playing.rules) kept [] a.at.told ≡ None
-    none = seen_none (tells Unheard a.playing.rules) kept [] a.at.told (λ tree. refl)
+    none : seen_in (tells (Unheard path) a.playing.rules) kept [] a.at.told ≡ None
+    none = seen_none (tells (Unheard path) a.playing.rules) kept [] a.at.told (λ tree. refl)
 
     nothing : (w : Seen) → Some w ≡ None → ⊥
     nothing w e = cc

@@ -1,22 +1,25 @@
 -- How a mirror ends: what is written, and with which status, by what the fetch answered.
-use Rattle.std.specs.Prelude.{◌≡◌, ◌<◌, ◌≤◌, ◌⊎◌, ℕ, List, ◌++◌, [], length, take, true, Option, Some, Result, Ok, Err, IfOk, IsErr}
+use Rattle.std.specs.Prelude.{◌≡◌, ◌<◌, ◌≤◌, ◌⊎◌, ℕ, List, ◌++◌, [], ◌∷◌, length, take, true, Option, None, Some, Result, Ok, Err, IfOk, IsErr}
 use Rattle.dav_io.specs.Counts.{RefusedNothing, Rose}
 use Rattle.dav_io.specs.Outside.{Stream}
 use Rattle.dav_io.specs.Told.{Both}
 use Rattle.dav_io.specs.declared.failure.NoMemory.{NoMemory}
+use Rattle.dav_core.specs.DavPath.{WebPath}
 use Rattle.dav_core.specs.Disk.{DiskState}
 use Rattle.dav_core.specs.World.{IsWorld, World}
 use Rattle.dav_fetch.specs.declared.copied.Copied.{Copied}
 use Rattle.dav_fetch.specs.declared.error.MirrorError.{MirrorError}
 use Rattle.dav_fetch.specs.declared.error.MirrorError.TheVariants.{Peer as PeerFailed, NoMemory as LacksMemory}
-use Rattle.dav_fetch.specs.Fetching.{Fetched}
+use Rattle.dav_fetch.specs.Fetching.{Fetched, visits_of}
 use Rattle.dav_fetch.specs.Mirroring.{IsLinkless, IsMirror, IsWithinLimits, visible_rows}
 use Rattle.dav_fetch.specs.Peer.{PeerState, Seen}
+use Rattle.dav_fetch.specs.Walk.{Visit}
 use Rattle.dav_mirror.specs.Came.{CameOf}
 use Rattle.dav_mirror.specs.Lines.{lines_of}
-use Rattle.dav_mirror.specs.Report.{report_of}
+use Rattle.dav_mirror.specs.Report.{copy_report}
 use Rattle.dav_mirror.specs.Seen.{seen_in}
 use Rattle.dav_mirror.specs.declared.report.Report.{Report}
+use Rattle.dav_mirror.specs.declared.report.Report.TheVariants.{Broken, Ended}
 
 -- how many requests may be made
 abbrev pub most_requests : ℕ
@@ -50,10 +53,26 @@ EndsBy (Err other) copy before after old result new = (new ≡ old) × (result �
 
 -- the peer over a disk of which nothing was asked yet: it tells the disk's world, and stands on it
 abbrev pub peer_at : DiskState → PeerState
-peer_at s = record { told = seen_in (λ tree. true) [] [] s.told; world = s.told; faults = s.faults }
+peer_at s = record { told = seen_in (λ tree. true) [] [] s.told; world = s.told; path = None; faults = s.faults }
 
--- A tree was fetched into a copy of nothing from a peer over the disk, and it ended so, which is reported. The peer has the disk's count, and
--- tells no other world at the end than the disk's. Whatever stands there and however it ends, the disk is as so many
+-- The last reply that was read is one to this path. The peer names it at the end, so no request behind it failed: its
+-- body did.
+pub record BrokeAt (path : WebPath) (visits : List Visit) (last : PeerState) : Type 0 where
+  pub before : List Visit
+  pub visit : Visit
+  pub are : visits ≡ before ++ visit ∷ []
+  pub to : visit.path ≡ path
+  pub named : last.path ≡ Some path
+
+-- What is told of a fetch: what its copy has; in the body of which path's reply the peer failed; or why else it ended,
+-- with the path.
+abbrev pub Reports : Result Unit MirrorError → Copied → List Visit → PeerState → Option Report → Type 0
+Reports (Ok x) copy visits last report = report ≡ Some (copy_report copy)
+Reports (Err PeerFailed) copy visits last report = (path : WebPath) × (report ≡ Some (Broken path)) × BrokeAt path visits last
+Reports (Err e) copy visits last report = report ≡ Some (Ended e)
+
+-- A tree was fetched into a copy of nothing from a peer over the disk, and it ended so, which is reported. The peer has
+-- the disk's count, and tells no other world at the end than the disk's. Whatever stands there and however it ends, the disk is as so many
 -- batches of the outside's changes make it, one at most for each request that may be made; and no more is open than was,
 -- but the file of the last reply where that wasn't read to its end.
 pub record Mirrors (before after : DiskState) (old : Stream) (result : Result ℕ NoMemory) (new : Stream) (report : Option Report) : Type 0 where
@@ -64,7 +83,7 @@ pub record Mirrors (before after : DiskState) (old : Stream) (result : Result �
   pub answer : Result Unit MirrorError
   pub fetched : Fetched (peer_at before) (record { dirs = []; files = [] }) most_requests answer last copy
   pub ends : EndsBy answer copy before.faults after.faults old result new
-  pub reports : report ≡ Some (report_of answer copy)
+  pub reports : Reports answer copy (visits_of fetched) last report
   pub file : Option ℕ
   pub turns : ℕ
   pub few : turns ≤ most_requests

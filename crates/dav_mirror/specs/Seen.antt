@@ -37,14 +37,14 @@ are_peer_rules rules = is_peer_set rules.settings && (not rules.folds && (not ru
 -- what a reply is the answer to, by whether its request is heard as one of the path
 abbrev pub heard_by : Bool → WebPath → Heard
 heard_by true path = Asked path
-heard_by false path = Unheard
+heard_by false path = Unheard path
 
 -- Whether a player tells its disk's world in a tree: under the rules of a peer, before its first reply, and behind one that
 -- was heard and met no link.
 abbrev pub tells : Heard → Rules → List Row → Bool
 tells Unasked rules tree = are_peer_rules rules
 tells (Asked path) rules tree = are_peer_rules rules && is_clear_at path tree
-tells Unheard rules tree = false
+tells (Unheard path) rules tree = false
 
 -- What is told: the disk's world, and what is left of the body, behind what is kept of its last piece.
 abbrev pub seen_in : (List Row → Bool) → List ℕ → List Part → Option World → Option Seen
@@ -59,9 +59,24 @@ left_at (Some body) p = p.left body
 abbrev pub seen_of : Heard → List ℕ → Option ℕ → Stage → Option Seen
 seen_of heard kept body a = seen_in (tells heard a.playing.rules) kept (left_at body a.playing) a.at.told
 
+-- the path of the last reply, where there was one
+abbrev pub path_of : Heard → Option WebPath
+path_of Unasked = None
+path_of (Asked path) = Some path
+path_of (Unheard path) = Some path
+
+-- The same is named, as long as no request was refused.
+abbrev pub named_in : Heard → ℕ → Option WebPath
+named_in heard refused = cond (refused == 0) (path_of heard) None
+
 -- It stands on the disk's world. The count is that of the disk and the peer's own together.
 abbrev pub peer_in : Heard → List ℕ → Option ℕ → ℕ → Stage → PeerState
-peer_in heard kept body refused a = record { told = seen_of heard kept body a; world = a.at.told; faults = a.at.faults + refused }
+peer_in heard kept body refused a = record {
+  told = seen_of heard kept body a;
+  world = a.at.told;
+  path = named_in heard refused;
+  faults = a.at.faults + refused;
+}
 
 -- How many replies it gave, as far as 2^31. Before that it refused none.
 abbrev pub replies_in : ℕ → ℕ → ℕ

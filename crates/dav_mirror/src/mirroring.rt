@@ -8,7 +8,7 @@ ghost use Rattle.dav_mirror.specs.Playing.{calls_of, peer_of};
 
 use crate::lines::text_of;
 use crate::play_peer::PlayPeer;
-use crate::report::{Report, total_of};
+use crate::report::{Report, ended, total_of};
 use dav_core::Disk;
 use dav_fetch::{Copied, Kept, MirrorError, fetch};
 use dav_handler::{LocalFs, Player, Settings};
@@ -79,7 +79,8 @@ pub fn mirror<D: Disk, K: Sink>(
     let mut copy = Copied::empty(alloc);
     let answer = fetch(alloc, &mut peer, &mut copy, MOST_REQUESTS);
     let mut memory = None;
-    let _ = peer.into_player().into_disk(&mut memory);
+    let mut last = None;
+    let _ = peer.into_parts(&mut last).into_disk(&mut memory);
     match answer {
         Ok(()) => {
             let files = copy.files.as_slice();
@@ -91,7 +92,7 @@ pub fn mirror<D: Disk, K: Sink>(
         }
         Err(error) => {
             let status = status_of(&error);
-            *report = Some(Report::Ended(error));
+            *report = Some(ended(error, last));
             status
         }
     }

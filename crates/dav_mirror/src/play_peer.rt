@@ -5,7 +5,7 @@ ghost use Rattle.dav_handler.specs.Player.{playing_of, stage_of};
 ghost use Rattle.dav_model.specs.Still.{StandsAs};
 ghost use Rattle.dav_model.specs.Trail.{Leaves};
 ghost use Rattle.dav_mirror.specs.Came.{CameBy, file_of};
-ghost use Rattle.dav_mirror.specs.Seen.{heard_by};
+ghost use Rattle.dav_mirror.specs.Seen.{heard_by, path_of};
 ghost use Rattle.dav_mirror.specs.declared.play_peer.Heard.TheVariants.{Unasked};
 
 use crate::asking::{Asking, request_for};
@@ -28,8 +28,8 @@ enum Heard {
     Unasked,
     // A GET of this path, which was asked for.
     Asked(DavPath),
-    // A request that isn't heard as one of the path.
-    Unheard,
+    // A request that was made for this path, and isn't heard as one of it.
+    Unheard(DavPath),
 }
 
 /// A player, asked as a server is: it answers each `get` by the steps Abandon of the last body, Turn and Request, and
@@ -38,7 +38,7 @@ enum Heard {
 /// It tells the disk's world where the disk tells one, where the player has the rules of a peer that tells, and behind each
 /// reply that met no link: at its path, on the way to it, or in the directory whose page was asked for. By such rules pages
 /// are permitted, nothing else is set but the size of the read buffer, and each path is meant as it is written. Its count of faults is that of the disk and one of its own together: a `get` where the player has given 2^31
-/// replies fails, and asks nothing. What no request can say is answered 400, as by a server that reads it, and nothing
+/// replies fails, and asks nothing. It names the path of its last reply, until a `get` fails so. What no request can say is answered 400, as by a server that reads it, and nothing
 /// is told then; nor behind a reply to a path under a prefix, or to a field `if`.
 pub struct PlayPeer<D: Disk, R: Remember> {
     alloc: Global,
@@ -55,6 +55,8 @@ pub struct PlayPeer<D: Disk, R: Remember> {
     // How many turns the outside had.
     turns: u64,
     ghost inside: { at ≤ length piece },
+    // Before the first reply no body is there, and each call that failed was refused.
+    ghost first: { path_of heard ≡ None → (body ≡ None) × (failures ≡ refused) },
 }
 
 impl<D: Disk, R: Remember> PlayPeer<D, R> {
@@ -86,17 +88,27 @@ impl<D: Disk, R: Remember> PlayPeer<D, R> {
     pub fn into_player(self) -> Player<D, R>
         ensures { result ≡ self.player }
     {
+        let mut last = None;
+        self.into_parts(&mut last)
+    }
+
+    /// Gives the player back so, and leaves the path of the last reply where it is told to.
+    pub(crate) fn into_parts(self, last: &mut Option<DavPath>) -> Player<D, R>
+        ensures player { result ≡ self.player }
+        ensures last { last.new ≡ path_of self.heard }
+    {
         let PlayPeer {
             alloc: _,
             player,
             body: _,
-            heard: _,
+            heard,
             piece: _,
             at: _,
             refused: _,
             failures: _,
             turns: _,
         } = self;
+        *last = asked_path(heard);
         player
     }
 
@@ -154,7 +166,17 @@ fn heard_as(heard: bool, path: DavPath) -> Heard
     if heard {
         Heard::Asked(path)
     } else {
-        Heard::Unheard
+        Heard::Unheard(path)
+    }
+}
+
+// The path of the last reply, where there was one.
+fn asked_path(heard: Heard) -> Option<DavPath>
+    ensures { result ≡ path_of heard }
+{
+    match heard {
+        Heard::Unasked => None,
+        Heard::Asked(path) | Heard::Unheard(path) => Some(path),
     }
 }
 
@@ -210,7 +232,7 @@ impl<D: Disk, R: Remember> Peer for PlayPeer<D, R> {
             Err(_) => return Err(PeerFault::NoMemory),
         };
         let Some(Asking { request, heard }) = asking else {
-            self.heard = Heard::Unheard;
+            self.heard = Heard::Unheard(asked);
             return Ok(Got {
                 status: 400,
                 headers: Fields::empty(self.alloc),
@@ -227,8 +249,8 @@ impl<D: Disk, R: Remember> Peer for PlayPeer<D, R> {
                     headers,
                     body,
                 } = reply;
-                self.body = Some(body);
                 self.heard = heard_as(heard, asked);
+                self.body = Some(body);
                 Ok(Got { status, headers })
             }
             Err(_) => Err(PeerFault::NoMemory),

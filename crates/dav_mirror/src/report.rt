@@ -1,7 +1,7 @@
 // What a mirror came to, as it is told beside its lines.
 ghost use Rattle.std.specs.Prelude.{◌≡◌, ◌++◌, IfOk, string_bytes};
 ghost use Rattle.dav_core.specs.DavPath.{link_of, shown};
-ghost use Rattle.dav_mirror.specs.Report.{error_line, report_line, total_len};
+ghost use Rattle.dav_mirror.specs.Report.{end_report, error_line, report_line, total_len};
 
 use dav_core::DavPath;
 use dav_fetch::{Kept, MirrorError};
@@ -13,6 +13,8 @@ use std::alloc::Global;
 pub enum Report {
     /// All was fetched: so many files, with so many bytes together, up to the greatest `u64`.
     Fetched { files: u64, bytes: u64 },
+    /// A call of the disk failed in the body of the reply to this path.
+    Broken { path: DavPath },
     /// The fetch ended so.
     Ended(MirrorError),
 }
@@ -29,9 +31,32 @@ impl Report {
                 let bytes = *bytes;
                 Ok(format!(in alloc; "{files} files, {bytes} bytes")?)
             }
+            Report::Broken { path } => broken(alloc, path),
             Report::Ended(error) => line_of(alloc, error),
         }
     }
+}
+
+/// Why a fetch ended. Where the peer failed, it is in the body of the last reply, if there was one.
+pub(crate) fn ended(error: MirrorError, last: Option<DavPath>) -> Report
+    ensures { result ≡ end_report error last }
+{
+    match error {
+        MirrorError::Peer => match last {
+            Some(path) => Report::Broken { path },
+            None => Report::Ended(MirrorError::Peer),
+        },
+        other => Report::Ended(other),
+    }
+}
+
+// The path of a body that broke.
+fn broken(alloc: Global, path: &DavPath) -> Result<String, NoMemory>
+    ensures { IfOk result (λ text. string_bytes text ≡ report_line (Report.Broken path.now)) }
+{
+    let link = path.as_url_string()?;
+    let link = link.as_str();
+    Ok(format!(in alloc; "a call of the disk failed in the body of {link}")?)
 }
 
 // An error in words.

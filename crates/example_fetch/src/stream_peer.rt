@@ -15,8 +15,8 @@ struct Answer {
     body: Octets,
 }
 
-/// Two streams to a server, the last answer's body, and how much of it was given. It tells no world, and counts the calls
-/// that failed.
+/// Two streams to a server, the last answer's body, and how much of it was given. It tells no world, names no path, and counts
+/// the calls that failed.
 #[derive(Drop)]
 pub struct StreamPeer<S: Source + Drop, K: Sink + Drop> {
     alloc: Global,
@@ -89,7 +89,7 @@ impl<S: Source + Drop, K: Sink + Drop> StreamPeer<S, K> {
 impl<S: Source + Drop, K: Sink + Drop> Peer for StreamPeer<S, K> {
     ghost use Rattle.std.specs.Prelude.{None};
 
-    ghost state = { λ p. record { told = None; world = None; faults = p.faults.met } };
+    ghost state = { λ p. record { told = None; world = None; path = None; faults = p.faults.met } };
 
     ghost calls = { λ p. record { replies = 0; failures = p.faults.met; turns = 0 } };
 

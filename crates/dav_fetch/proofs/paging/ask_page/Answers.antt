@@ -64,3 +64,14 @@ returns-in-Ok-None-clause-err g c =
         refl,
       ),
     )
+
+pub returns-in-Failed-clause-err : goal.returns-in-Failed-clause-err
+returns-in-Failed-clause-err g c =
+    let r = c.in-Failed.ensures.reads in
+    let status_is : c.in-Ok-get.got.status ≡ 200 = search rules in inr (
+      visit_of _ _ c.args.dir.now c.empty-fields.result c.in-Ok-get.got c.in-Ok-get.ensures.gets r.0,
+      r.1.at,
+      visited _ _ _ _ _ _ c.in-Ok-get.ensures.gets r.0 (page_askable c.args.dir.now.names c.args.dir.now c.empty-fields.result c.requires.dir c.requires.is c.empty-fields.ensures) r.1.read,
+      record { path = c.requires.dir; asked = c.empty-fields.ensures },
+      (status_is, r.1.ends.0, r.1.ends.2),
+    )
