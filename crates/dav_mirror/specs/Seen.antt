@@ -1,6 +1,7 @@
 -- What a player tells as a peer, by its stage and by what is kept of the last reply.
 use Rattle.std.specs.Prelude.{◌&&◌, ◌||◌, ◌==◌, ◌+◌, ◌^◌, ◌++◌, min, ℕ, List, [], ◌∷◌, Bool, true, false, cond, not, is_some, Option, None, Some}
 use Rattle.dav_core.specs.declared.tree.Row.{Row}
+use Rattle.dav_io.specs.declared.clock.Moment.{Moment}
 use Rattle.dav_core.specs.DavPath.{WebPath}
 use Rattle.dav_core.specs.Tree.{is_linked}
 use Rattle.dav_core.specs.World.{World}
@@ -58,6 +59,10 @@ left_at (Some body) p = p.left body
 
 abbrev pub seen_of : Heard → List ℕ → Option ℕ → Stage → Option Seen
 seen_of heard kept body a = seen_in (tells heard a.playing.rules) kept (left_at body a.playing) a.at.told
+
+-- when each of its requests is played
+abbrev pub peer_moment : Moment
+peer_moment = record { 0 = 0 }
 
 -- the path of the last reply, where there was one
 abbrev pub path_of : Heard → Option WebPath

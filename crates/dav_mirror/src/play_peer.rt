@@ -2,10 +2,14 @@ ghost use Rattle.std.specs.Prelude.{◌≡◌, ◌≤◌, ◌<◌, ◌+◌, ◌^
 ghost use Rattle.dav_core.specs.Disk.{DiskState};
 ghost use Rattle.dav_core.specs.World.{World};
 ghost use Rattle.dav_handler.specs.Player.{playing_of, stage_of};
+ghost use Rattle.dav_handler.specs.Replies.{answered};
+ghost use Rattle.dav_local.specs.Made.{MadeAt};
+ghost use Rattle.dav_model.specs.Play.{Stepped};
+ghost use Rattle.dav_model.specs.declared.step.Step.TheVariants.{Request as Asks};
 ghost use Rattle.dav_model.specs.Still.{StandsAs};
 ghost use Rattle.dav_model.specs.Trail.{Leaves};
 ghost use Rattle.dav_mirror.specs.Came.{CameBy, file_of};
-ghost use Rattle.dav_mirror.specs.Seen.{heard_by, path_of};
+ghost use Rattle.dav_mirror.specs.Seen.{heard_by, path_of, peer_moment};
 ghost use Rattle.dav_mirror.specs.declared.play_peer.Heard.TheVariants.{Unasked};
 
 use crate::asking::{Asking, request_for};
@@ -203,6 +207,20 @@ fn abandon<D: Disk, R: Remember>(player: &mut Player<D, R>, body: u32) -> Result
     }
 }
 
+// Asks for a reply, by the step Request at the moment 0: a peer has no clock. What the memory of the store remembers anew
+// is of that moment.
+fn ask<D: Disk, R: Remember>(
+    player: &mut Player<D, R>,
+    request: &Request<Octets>,
+) -> Result<Reply, NoMemory>
+    requires { (playing_of player.old).replies + 1 < 2 ^ 32 }
+    ensures done { Stepped (stage_of player.old) (Asks request.now peer_moment) (answered result) (stage_of player.new) }
+    ensures made { MadeAt peer_moment (R.state player.old.store.memory) (R.state player.new.store.memory) }
+    ensures loan { D.loan player.new.store.disk ≡ D.loan player.old.store.disk }
+{
+    player.request(request, Moment(0))
+}
+
 impl<D: Disk, R: Remember> Peer for PlayPeer<D, R> {
     ghost use Rattle.dav_mirror.specs.Playing.{calls_of, peer_of};
 
@@ -242,7 +260,7 @@ impl<D: Disk, R: Remember> Peer for PlayPeer<D, R> {
             return Err(PeerFault::NoMemory);
         }
         self.turns = self.turns.saturating_add(1);
-        match self.player.request(&request, Moment(0)) {
+        match ask(&mut self.player, &request) {
             Ok(reply) => {
                 let Reply {
                     status,
