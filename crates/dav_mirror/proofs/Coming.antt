@@ -132,7 +132,7 @@ reading_leaves (At method path) rules k fields body result s t e makes = makes
 reading_leaves Methods rules k fields body result s t e makes = makes
 reading_leaves (Refused status close) rules k fields body result s t e makes = makes
 
-reply_number : (a b c : ℕ) (f g : List Field) (d : ℕ) → Replied a f b ≡ Replied c g d → d ≡ b
+pub reply_number : (a b c : ℕ) (f g : List Field) (d : ℕ) → Replied a f b ≡ Replied c g d → d ≡ b
 reply_number a b c f g d e = cc
 
 pub answered_leaves : (a b : Stage) (request : Asked) (now : Moment) (said : List Field) → IsGet said request → (answer : Answer) → Stepped a (Request request now) (Ok answer) b → Leaves a.at b.at

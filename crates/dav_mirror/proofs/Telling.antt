@@ -48,6 +48,7 @@ use Rattle.dav_fetch.specs.declared.peer.PeerFault.TheVariants.{Failed as PeerFa
 use Rattle.dav_fetch.specs.Peer.{Came, GoesOn, Gets as GetsPeer, Gives as GivesPeer, IsAskable, IsGot, MeetsNone, PeerState, RepliesIn, Seen, StaysStill, TurnsOnce, body_in, part_bytes, peer_rules, peer_settings}
 use Rattle.dav_fetch.proofs.PollBytes.{poll_bytes}
 use Rattle.dav_mirror.specs.Asking.{IsAskedFor, IsGet, IsHeard}
+use Rattle.dav_mirror.proofs.Coming.{reply_number}
 use Rattle.dav_mirror.specs.Seen.{are_peer_rules, heard_by, is_clear_at, is_none, is_on, is_peer_set, left_at, named_in, path_of, peer_in, seen_in, seen_of, tells}
 use Rattle.dav_mirror.specs.declared.play_peer.Heard.{Heard}
 use Rattle.dav_mirror.specs.declared.play_peer.Heard.TheVariants.{Asked as AskedFor, Unheard}
@@ -297,9 +298,6 @@ reply_status a b c f g d e = cc
 
 reply_fields : (a b c : ℕ) (f g : List Field) (d : ℕ) → Replied a f b ≡ Replied c g d → g ≡ f
 reply_fields a b c f g d e = cc
-
-reply_number : (a b c : ℕ) (f g : List Field) (d : ℕ) → Replied a f b ≡ Replied c g d → d ≡ b
-reply_number a b c f g d e = cc
 
 module _ (p q : Playing) (s t : Point) (request : Asked) (now : Moment) (answer : Answer) (path : WebPath) (asked : List Field) (heard : Bool) (before own : ℕ)
     (status : ℕ) (headers : List Field) (number : ℕ) where
