@@ -17,6 +17,7 @@ pub mod Lru
 pub mod Probes
 pub mod PathLists
 pub mod DotLists
+pub mod Listings
 pub mod Members
 pub mod Rising
 pub mod MemoryCalls

@@ -6,6 +6,7 @@ ghost use Rattle.std.specs.Map.{lookup};
 ghost use Rattle.lru.specs.LruCache.{lru_cache, last_entry, IsValid};
 ghost use Rattle.dav_memory.specs.Entries as dots;
 ghost use Rattle.dav_memory.specs.Calls as calls;
+ghost use Rattle.dav_cache.specs.Listings.{OneListingEach};
 
 use crate::trees::is_dot;
 use crate::valid::no_key_stands_twice;
@@ -26,13 +27,14 @@ pub struct DuCache {
 }
 
 impl Model for DuCache {
-    ghost use Rattle.dav_memory.specs.Entries.{DotCache, AreCounted};
+    ghost use Rattle.dav_memory.specs.Entries.{DotCache};
+    ghost use Rattle.dav_cache.specs.Listings.{AreKept};
 
     ghost Value = { DotCache };
 
     ghost view = { λ c. record { entries = c.entries.entries; size = c.entries.cap; next = c.next } };
 
-    ghost invariant = { λ c. AreCounted c.next c.entries.entries };
+    ghost invariant = { λ c. AreKept c.next c.entries.entries };
 }
 
 impl DuCache {
@@ -52,6 +54,7 @@ impl DuCache {
     pub fn len(&self) -> usize
         ensures value { result ≡ length self.now.entries }
         ensures counted { dots.AreCounted self.now.next self.now.entries }
+        ensures listings { OneListingEach self.now.entries }
     {
         self.entries.len()
     }
@@ -183,9 +186,11 @@ impl DuCache {
         }
     }
 
-    /// Tells a proof what each cache keeps of its entries. It is known where a field is read.
+    /// Tells a proof what each cache keeps of its entries: their counts, and that a number belongs to one directory, one
+    /// time of it and one moment. It is known where a field is read.
     pub fn are_counted(&self)
-        ensures { dots.AreCounted self.now.next self.now.entries }
+        ensures counted { dots.AreCounted self.now.next self.now.entries }
+        ensures listings { OneListingEach self.now.entries }
     {
         let _next = self.next;
     }

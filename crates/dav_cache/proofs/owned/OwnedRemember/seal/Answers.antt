@@ -9,5 +9,5 @@ returns c =
     let new : OwnedState = record { paths = c.self.inside.paths; dots = c.seal.new.self } in
     record {
       done = subst (λ (o : OwnedState). SealsIn (memory_of o) c.args.dir.now c.args.time c.args.names.now c.args.now c.seal.result (memory_of new)) c.self.view_is
-          (owned_seals old new c.args.dir.now c.args.time c.args.names.now c.args.now c.seal.result c.are_counted.ensures c.seal.ensures refl);
+          (owned_seals old new c.args.dir.now c.args.time c.args.names.now c.args.now c.seal.result c.are_counted.ensures.counted c.seal.ensures refl);
     }
