@@ -16,14 +16,14 @@ use Rattle.dav_model.specs.Bodies.{Breaks, Part, Polls, slice, text}
 use Rattle.dav_model.specs.Conditions.{Asked, Fields, fields_of}
 use Rattle.dav_model.specs.Due.{query}
 use Rattle.dav_model.specs.Head.{Reply}
-use Rattle.dav_model.specs.Play.{Ends, Playing, PlayedOn, Plays, Replies, Stage, Stands}
+use Rattle.dav_model.specs.Play.{Ends, Playing, PlayedOn, Plays, Replies, Stage, Stands, Stepped}
 use Rattle.dav_model.specs.Rules.{Knowledge, Rules}
 use Rattle.dav_model.specs.Trail.{Move, Point, answers_of, last_of, target_of}
 use Rattle.dav_model.specs.WellFormed.{gate_statuses, is_among}
 use Rattle.dav_model.specs.Written.{IsWriteReply}
 use Rattle.dav_model.proofs.RightReplies.{failed_by_fault}
 use Rattle.dav_model.proofs.WellFormedRuns.{among_all, gate_well_formed}
-use Rattle.dav_fault_laws.specs.Whole.{IsWhole}
+use Rattle.dav_fault_laws.specs.Whole.{FailByFaults, IsWhole}
 
 -- ---- answers
 
@@ -141,9 +141,54 @@ run_whole a b steps old added result on none =
     let last = ends_go result on.played.rest (record { at = last_of a.at on.trail; playing = on.played.player }) b on.played.ends in
     subst (AllByRecursion IsWhole) (sym same) (plays_whole a.playing a.at on.trail on.played.player b.at.faults on.played.answered last none.same none.room)
 
--- a run at whose exit the count is nought
+-- in every run
+each_by_faults : (p : Playing) (s : Point) (moves : List Move) (q : Playing) → Plays p s moves q → FailByFaults s moves
+each_by_faults p s [] q plays = tt
+each_by_faults p s (move ∷ moves) q (m, stands, held, plays) = (
+  step_whole p s move.to move.step move.answer m stands,
+  each_by_faults m move.to moves q plays,
+)
+
+pub run_by_faults : (a b : Stage) (steps : List Step) (old new : List Answer) (result : Result Unit NoMemory) (on : PlayedOn a steps old new result b)
+    → FailByFaults a.at on.trail
+run_by_faults a b steps old new result on = each_by_faults a.playing a.at on.trail on.played.player on.played.answered
+
+-- ---- where the count is nought
+
+none_at_nought : (s t : ℕ) → t ≤ 0 → Rose s t → ⊥
+none_at_nought s t nought (inl more) = omega (arith, nought, more)
+none_at_nought s t nought (inr big) = omega (arith, nought, big)
+
+-- behind a step
+pub step_whole_at_nought : (a b : Stage) (step : Step) (answer : Answer) → Stepped a step (Ok answer) b → b.at.faults ≤ 0 → IsWhole answer
+step_whole_at_nought a b step answer (stands, held) nought =
+    step_whole a.playing a.at b.at step answer b.playing stands (none_at_nought a.at.faults b.at.faults nought)
+
+-- at the exit of a run
 pub run_whole_at_nought : (a b : Stage) (steps : List Step) (old added : List Answer) (result : Result Unit NoMemory) → PlayedOn a steps old (old ++ added) result b
-    → b.at.faults ≡ 0 → AllByRecursion IsWhole added
+    → b.at.faults ≤ 0 → AllByRecursion IsWhole added
 run_whole_at_nought a b steps old added result on nought =
     let goes = run_goes a b steps old (old ++ added) result on in
     run_whole a b steps old added result on (record { same = omega (arith, goes, nought); room = omega (arith, nought) })
+
+-- behind the first steps of a trail
+front_goes : (p : Playing) (s : Point) (some later : List Move) (q : Playing) → Plays p s (some ++ later) q → s.faults ≤ (last_of s some).faults
+front_goes p s [] later q plays = omega arith
+front_goes p s (move ∷ moves) later q (m, stands, held, plays) =
+    omega (arith, step_goes p s move.to move.step move.answer m stands, front_goes m move.to moves later q plays)
+
+front_whole : (p : Playing) (s : Point) (some later : List Move) (q : Playing) → Plays p s (some ++ later) q → (last_of s some).faults ≤ 0
+    → AllByRecursion IsWhole (answers_of some)
+front_whole p s [] later q plays nought = tt
+front_whole p s (move ∷ moves) later q (m, stands, held, plays) nought =
+    let goes : move.to.faults ≤ (last_of move.to moves).faults = front_goes m move.to moves later q plays in
+    let here : move.to.faults ≤ 0 = omega (arith, goes, nought) in (
+      step_whole p s move.to move.step move.answer m stands (none_at_nought s.faults move.to.faults here),
+      front_whole m move.to moves later q plays nought,
+    )
+
+pub some_whole_at_nought : (a b : Stage) (steps : List Step) (old new : List Answer) (result : Result Unit NoMemory) (on : PlayedOn a steps old new result b)
+    (some later : List Move) → on.trail ≡ some ++ later → (last_of a.at some).faults ≤ 0 → AllByRecursion IsWhole (answers_of some)
+some_whole_at_nought a b steps old new result on some later are nought =
+    let plays = subst (λ (moves : List Move). Plays a.playing a.at moves on.played.player) are on.played.answered in
+    front_whole a.playing a.at some later on.played.player plays nought
