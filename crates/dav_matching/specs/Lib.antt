@@ -1,4 +1,5 @@
 pub mod Texts
+pub mod Folded
 pub mod Cards
 pub mod Properties
 pub mod Calendars

@@ -7,11 +7,11 @@ ghost use Rattle.dav_report.specs.FilterLists.{asked_by, filters_of};
 ghost use Rattle.dav_matching.specs.Calendars as form;
 ghost use Rattle.dav_matching.specs.Calendars.{all_pass, some_component};
 
+use crate::folds::Folds;
 use crate::properties::{bound, properties_match};
 use dav_calendar::{Component, overlaps, read_components};
 use dav_io::{NoMemory, Text};
 use dav_report::caldav::{ComponentFilter, TimeRange};
-use std::alloc::Global;
 
 /// Whether a component has the name that a filter asks for, ASCII case ignored.
 fn is_named(filter: &ComponentFilter, component: &Component) -> bool
@@ -34,14 +34,18 @@ fn is_in_range(range: &Option<TimeRange>, component: &Component) -> bool
 }
 
 /// Whether a component has the name, the time and the properties that a filter asks for.
-fn fits(alloc: Global, filter: &ComponentFilter, component: &Component) -> Result<bool, NoMemory>
+fn fits(
+    folds: &mut Folds,
+    filter: &ComponentFilter,
+    component: &Component,
+) -> Result<bool, NoMemory>
     ensures { IfOk result (λ matched. matched ≡ form.fits (asked_by filter.now) (told_by component.now)) }
 {
     if !is_named(filter, component) || !is_in_range(&filter.time_range, component) {
         return Ok(false);
     }
     properties_match(
-        alloc,
+        folds,
         filter.prop_filters.as_slice(),
         component.properties.as_slice(),
     )
@@ -62,18 +66,18 @@ fn some_named(filter: &ComponentFilter, components: &[Component]) -> bool
 /// Whether a component is as asked, and the components in it are as the filters in the filter ask.
 #[cycle(matching)]
 fn one_matches(
-    alloc: Global,
+    folds: &mut Folds,
     filter: &ComponentFilter,
     component: &Component,
 ) -> Result<bool, NoMemory>
     ensures { IfOk result (λ matched. matched ≡ (form.fits (asked_by filter.now) (told_by component.now)
         && all_pass filter.now.comp_filters component.now.children)) }
 {
-    if !fits(alloc, filter, component)? {
+    if !fits(folds, filter, component)? {
         return Ok(false);
     }
     all_match(
-        alloc,
+        folds,
         filter.comp_filters.as_slice(),
         component.children.as_slice(),
     )
@@ -82,7 +86,7 @@ fn one_matches(
 /// Whether some component is so.
 #[cycle(matching)]
 fn some_match(
-    alloc: Global,
+    folds: &mut Folds,
     filter: &ComponentFilter,
     components: &[Component],
 ) -> Result<bool, NoMemory>
@@ -90,7 +94,7 @@ fn some_match(
         && all_pass filter.now.comp_filters children) (tree_of components.now)) }
 {
     for component in components {
-        if one_matches(alloc, filter, component)? {
+        if one_matches(folds, filter, component)? {
             return Ok(true);
         }
     }
@@ -100,7 +104,7 @@ fn some_match(
 /// Whether a filter matches over these components.
 #[cycle(matching)]
 fn filter_matches(
-    alloc: Global,
+    folds: &mut Folds,
     filter: &ComponentFilter,
     components: &[Component],
 ) -> Result<bool, NoMemory>
@@ -110,20 +114,20 @@ fn filter_matches(
     if filter.is_not_defined {
         return Ok(!some_named(filter, components));
     }
-    some_match(alloc, filter, components)
+    some_match(folds, filter, components)
 }
 
 /// Whether each filter matches over these components.
 #[cycle(matching)]
 fn all_match(
-    alloc: Global,
+    folds: &mut Folds,
     filters: &[ComponentFilter],
     components: &[Component],
 ) -> Result<bool, NoMemory>
     ensures { IfOk result (λ matched. matched ≡ all_pass (filters_of filters.now) (tree_of components.now)) }
 {
     for filter in filters {
-        if !filter_matches(alloc, filter, components)? {
+        if !filter_matches(folds, filter, components)? {
             return Ok(false);
         }
     }
@@ -142,7 +146,7 @@ fn all_match(
 /// match type says, by Unicode's default case folding: one and the same property all of them. Parameters and the
 /// collation aren't looked at.
 pub fn calendar_matches(
-    alloc: Global,
+    folds: &mut Folds,
     filter: &Option<ComponentFilter>,
     text: &Text,
 ) -> Result<bool, NoMemory>
@@ -154,8 +158,8 @@ pub fn calendar_matches(
     if filter.name.as_slice().is_empty() {
         return Ok(true);
     }
-    match read_components(alloc, text.as_str())? {
-        Some(components) => filter_matches(alloc, filter, components.as_slice()),
+    match read_components(folds.alloc(), text.as_str())? {
+        Some(components) => filter_matches(folds, filter, components.as_slice()),
         None => Ok(false),
     }
 }

@@ -5,6 +5,7 @@ ghost use Rattle.dav_report.specs.Lines.{value_of as the_value_of};
 ghost use Rattle.dav_matching.specs.Cards as form;
 ghost use Rattle.dav_matching.specs.Texts.{compares as the_compares};
 
+use crate::folds::Folds;
 use crate::texts::{Comparison, compares, comparison_of, folded, has, negated};
 use dav_io::{NoMemory, Text};
 use dav_report::TextMatch;
@@ -56,11 +57,11 @@ fn card_compares(comparison: Comparison, text: &str, part: &str) -> bool
 }
 
 /// Whether the text of a vCard, without regard to case, is as asked.
-fn text_matches(alloc: Global, asked: &TextMatch, text: &Text) -> Result<bool, NoMemory>
+fn text_matches(folds: &mut Folds, asked: &TextMatch, text: &Text) -> Result<bool, NoMemory>
     ensures { IfOk result (λ matches. matches ≡ form.text_passes (Some asked.now) text.now) }
 {
-    let part = folded(alloc, &asked.text)?;
-    let text = folded(alloc, text)?;
+    let text = folded(folds.alloc(), text)?;
+    let part = folds.folded(&asked.text)?;
     let passed = card_compares(
         comparison_of(&asked.match_type),
         text.as_str(),
@@ -86,7 +87,7 @@ fn defining(alloc: Global, name: &Text) -> Result<Text, NoMemory>
 /// follows the first colon of each line, any other match type over the text. Names, parameters and the collation aren't
 /// looked at.
 pub fn address_matches(
-    alloc: Global,
+    folds: &mut Folds,
     filter: &Option<PropertyFilter>,
     text: &Text,
 ) -> Result<bool, NoMemory>
@@ -96,11 +97,11 @@ pub fn address_matches(
         return Ok(true);
     };
     if filter.is_not_defined {
-        let defined = defining(alloc, &filter.name)?;
+        let defined = defining(folds.alloc(), &filter.name)?;
         return Ok(!has(text.as_str(), defined.as_str()));
     }
     let Some(text_match) = &filter.text_match else {
         return Ok(true);
     };
-    text_matches(alloc, text_match, text)
+    text_matches(folds, text_match, text)
 }

@@ -3,8 +3,11 @@
 
 mod calendars;
 mod cards;
+mod fold;
+mod folds;
 mod properties;
 mod texts;
 
 pub use calendars::calendar_matches;
 pub use cards::address_matches;
+pub use folds::Folds;

@@ -3,12 +3,12 @@ ghost use Rattle.std.specs.Prelude.{◌≡◌, IfOk, Some};
 ghost use Rattle.std.specs.List.{list_all, list_any};
 ghost use Rattle.dav_matching.specs.Properties as form;
 
+use crate::folds::Folds;
 use crate::texts::{compares, comparison_of, folded, negated};
 use dav_calendar::{Property, read_moment};
 use dav_io::{NoMemory, Text};
 use dav_report::TextMatch;
 use dav_report::caldav::{PropertyFilter, TimeRange};
-use std::alloc::Global;
 
 /// The seconds of a bound of a range. One that can't be read counts as missing.
 pub(crate) fn bound(text: &Option<Text>) -> Option<i64>
@@ -37,11 +37,11 @@ fn is_in_range(range: &Option<TimeRange>, value: &Text) -> bool
 }
 
 /// Whether a value, without regard to case, is as asked.
-fn text_matches(alloc: Global, asked: &TextMatch, value: &Text) -> Result<bool, NoMemory>
+fn text_matches(folds: &mut Folds, asked: &TextMatch, value: &Text) -> Result<bool, NoMemory>
     ensures { IfOk result (λ matched. matched ≡ form.value_passes (Some asked.now) value.now) }
 {
-    let part = folded(alloc, &asked.text)?;
-    let value = folded(alloc, value)?;
+    let value = folded(folds.alloc(), value)?;
+    let part = folds.folded(&asked.text)?;
     let passed = compares(
         comparison_of(&asked.match_type),
         value.as_str(),
@@ -61,7 +61,11 @@ fn is_named(filter: &PropertyFilter, property: &Property) -> bool
 }
 
 /// Whether one and the same property has the name, a moment in the range and the text that a filter asks for.
-fn is_asked(alloc: Global, filter: &PropertyFilter, property: &Property) -> Result<bool, NoMemory>
+fn is_asked(
+    folds: &mut Folds,
+    filter: &PropertyFilter,
+    property: &Property,
+) -> Result<bool, NoMemory>
     ensures { IfOk result (λ matched. matched ≡ form.is_asked filter.now property.now) }
 {
     if !is_named(filter, property) || !is_in_range(&filter.time_range, &property.value) {
@@ -70,7 +74,7 @@ fn is_asked(alloc: Global, filter: &PropertyFilter, property: &Property) -> Resu
     let Some(asked) = &filter.text_match else {
         return Ok(true);
     };
-    text_matches(alloc, asked, &property.value)
+    text_matches(folds, asked, &property.value)
 }
 
 /// Whether some property has the name.
@@ -87,14 +91,14 @@ fn some_named(filter: &PropertyFilter, properties: &[Property]) -> bool
 
 /// Whether some property is as asked.
 fn some_asked(
-    alloc: Global,
+    folds: &mut Folds,
     filter: &PropertyFilter,
     properties: &[Property],
 ) -> Result<bool, NoMemory>
     ensures { IfOk result (λ matched. matched ≡ list_any (form.is_asked filter.now) properties.now) }
 {
     for property in properties {
-        if is_asked(alloc, filter, property)? {
+        if is_asked(folds, filter, property)? {
             return Ok(true);
         }
     }
@@ -103,7 +107,7 @@ fn some_asked(
 
 /// Whether the properties of a component are as a filter asks.
 fn filter_matches(
-    alloc: Global,
+    folds: &mut Folds,
     filter: &PropertyFilter,
     properties: &[Property],
 ) -> Result<bool, NoMemory>
@@ -112,19 +116,19 @@ fn filter_matches(
     if filter.is_not_defined {
         return Ok(!some_named(filter, properties));
     }
-    some_asked(alloc, filter, properties)
+    some_asked(folds, filter, properties)
 }
 
 /// Whether the properties of a component are as each filter asks.
 pub(crate) fn properties_match(
-    alloc: Global,
+    folds: &mut Folds,
     filters: &[PropertyFilter],
     properties: &[Property],
 ) -> Result<bool, NoMemory>
     ensures { IfOk result (λ matched. matched ≡ list_all (form.property_passes properties.now) filters.now) }
 {
     for filter in filters {
-        if !filter_matches(alloc, filter, properties)? {
+        if !filter_matches(folds, filter, properties)? {
             return Ok(false);
         }
     }

@@ -14,6 +14,7 @@ use crate::walking::visit;
 use crate::wanted::Wanted;
 use dav_core::{DavPath, ParseError};
 use dav_io::{NoMemory, Text};
+use dav_matching::Folds;
 use dav_report::{Names, Record, Records, Report, ReportError};
 use dav_store::GuardedFileSystem;
 use std::alloc::Global;
@@ -49,7 +50,9 @@ fn follow_link<S: GuardedFileSystem<C>, C>(
         Err(ParseError::NoMemory) => return Err(ReportError::NoMemory),
         Err(_) => return Ok(false),
     };
-    let visited = visit(alloc, fs, credentials, path, wanted, records);
+    // A multiget has no filter, so nothing is searched for that could be kept.
+    let mut folds = Folds::new(alloc);
+    let visited = visit(alloc, fs, credentials, path, wanted, &mut folds, records);
     gives_record(visited)
 }
 

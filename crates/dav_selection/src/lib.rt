@@ -13,5 +13,5 @@ mod wanted;
 
 pub use calendars::calendar_report;
 pub use cards::addressbook_report;
-pub use dav_matching::{address_matches, calendar_matches};
+pub use dav_matching::{Folds, address_matches, calendar_matches};
 pub use told::{ReportKind, local_report, shows_the_tree};

@@ -22,6 +22,7 @@ use crate::resource::Unread;
 use crate::wanted::{Wanted, add_wanted};
 use dav_core::{DavPath, FsError, Member};
 use dav_io::NoMemory;
+use dav_matching::Folds;
 use dav_report::{Names, Record, Records, Report, ReportError};
 use dav_store::{GuardedFileSystem, read_members};
 use std::alloc::Global;
@@ -48,13 +49,14 @@ fn member_path(dir: &DavPath, member: &Member) -> Result<DavPath, NoMemory>
 }
 
 /// Fetches the resource at a path, and adds its record, where it is wanted. It answers whether it added one, or why the
-/// resource isn't read.
+/// resource isn't read. What the filter searches for is folded once, as long as the same folds are lent.
 pub(crate) fn visit<S: GuardedFileSystem<C>, C>(
     alloc: Global,
     fs: &mut S,
     credentials: &C,
     path: DavPath,
     wanted: Wanted<'_>,
+    folds: &mut Folds,
     records: &mut Vec<Record>,
 ) -> Result<bool, Unread>
     ensures table { ((got : Result Resource Unread) × Fetches S.view credentials.now path fs.old got fs.new
@@ -63,7 +65,7 @@ pub(crate) fn visit<S: GuardedFileSystem<C>, C>(
     ensures stays { Stays S.view fs.old fs.new }
 {
     match fetch(alloc, fs, credentials, &path) {
-        Ok(resource) => match add_wanted(alloc, wanted, path, resource, records) {
+        Ok(resource) => match add_wanted(alloc, wanted, path, resource, folds, records) {
             Ok(added) => Ok(added),
             Err(_) => Err(Unread::NoMemory),
         },
@@ -97,6 +99,7 @@ fn walk<S: GuardedFileSystem<C>, C>(
         ⊎ (result ≡ Err ReportError.NoMemory) }
     ensures stays { Stays S.view fs.old fs.new }
 {
+    let mut folds = Folds::new(alloc);
     let mut records = Vec::new(alloc);
     for member in members {
         if !wants_more(limit, records.as_slice()) {
@@ -105,7 +108,15 @@ fn walk<S: GuardedFileSystem<C>, C>(
         let Ok(path) = member_path(dir, member) else {
             return Err(ReportError::NoMemory);
         };
-        let visited = visit(alloc, fs, credentials, path, wanted, &mut records);
+        let visited = visit(
+            alloc,
+            fs,
+            credentials,
+            path,
+            wanted,
+            &mut folds,
+            &mut records,
+        );
         if let Err(error) = passed(visited) {
             return Err(error);
         }

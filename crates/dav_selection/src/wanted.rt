@@ -8,7 +8,7 @@ ghost use Rattle.dav_selection.specs.Taken.{is_data as is_wanted_data, matches a
 use crate::resource::Resource;
 use dav_core::DavPath;
 use dav_io::{NoMemory, Text};
-use dav_matching::{address_matches, calendar_matches};
+use dav_matching::{Folds, address_matches, calendar_matches};
 use dav_report::caldav::ComponentFilter;
 use dav_report::carddav::PropertyFilter;
 use dav_report::{Record, is_calendar_data, is_vcard_data};
@@ -41,24 +41,29 @@ impl Wanted<'_> {
         }
     }
 
-    fn matches(self, alloc: Global, text: &Text) -> Result<bool, NoMemory>
+    fn matches(self, folds: &mut Folds, text: &Text) -> Result<bool, NoMemory>
         ensures { IfOk result (λ matched. matched ≡ is_match self.entry text.now) }
     {
         match self {
-            Wanted::Calendars(filter) => calendar_matches(alloc, filter, text),
-            Wanted::Cards(filter) => address_matches(alloc, filter, text),
+            Wanted::Calendars(filter) => calendar_matches(folds, filter, text),
+            Wanted::Cards(filter) => address_matches(folds, filter, text),
         }
     }
 
     /// The text of a content that is wanted.
-    pub(crate) fn take(self, alloc: Global, content: &[u8]) -> Result<Option<Text>, NoMemory>
+    pub(crate) fn take(
+        self,
+        alloc: Global,
+        folds: &mut Folds,
+        content: &[u8],
+    ) -> Result<Option<Text>, NoMemory>
         ensures { IfOk result (λ text. text ≡ taken self.entry content.now) }
     {
         if !self.is_data(content) {
             return Ok(None);
         }
         let text = text_of(alloc, content)?;
-        if self.matches(alloc, &text)? {
+        if self.matches(folds, &text)? {
             return Ok(Some(text));
         }
         Ok(None)
@@ -71,13 +76,14 @@ pub(crate) fn add_wanted(
     wanted: Wanted<'_>,
     path: DavPath,
     resource: Resource,
+    folds: &mut Folds,
     records: &mut Vec<Record>,
 ) -> Result<bool, NoMemory>
     ensures records { OnOk result (records.new.items ≡ records.old.items ++ given (taken wanted.entry) path
         (Ok resource)) }
     ensures taken { IfOk result (λ added. added ≡ is_some (taken wanted.entry resource.content)) }
 {
-    let Some(text) = wanted.take(alloc, resource.content.as_slice())? else {
+    let Some(text) = wanted.take(alloc, folds, resource.content.as_slice())? else {
         return Ok(false);
     };
     records.push(Record {

@@ -15,7 +15,7 @@ use crate::trees::root;
 use dav_calendar::{Components, overlaps, read_components, read_duration, read_moment};
 use dav_io::{NoMemory, Text};
 use dav_lock::Element;
-use dav_matching::{address_matches, calendar_matches};
+use dav_matching::{Folds, address_matches, calendar_matches};
 use dav_report::caldav::CalDavReportType;
 use dav_report::carddav::CardDavReportType;
 use dav_report::{parse_addressbook_report, parse_calendar_report};
@@ -143,7 +143,8 @@ fn tell_match(line: &mut Line, matched: Result<bool, NoMemory>) {
 fn calendar(alloc: Global, line: &mut Line, text: &Text, root: &Element) {
     match parse_calendar_report(alloc, root) {
         Ok(CalDavReportType::CalendarQuery(query)) => {
-            tell_match(line, calendar_matches(alloc, &query.comp_filter, text));
+            let mut folds = Folds::new(alloc);
+            tell_match(line, calendar_matches(&mut folds, &query.comp_filter, text));
         }
         Ok(_) => line.add("no query"),
         Err(error) => line.add_value(&error),
@@ -153,7 +154,8 @@ fn calendar(alloc: Global, line: &mut Line, text: &Text, root: &Element) {
 fn cards(alloc: Global, line: &mut Line, text: &Text, root: &Element) {
     match parse_addressbook_report(alloc, root) {
         Ok(CardDavReportType::AddressBookQuery(query)) => {
-            tell_match(line, address_matches(alloc, &query.prop_filter, text));
+            let mut folds = Folds::new(alloc);
+            tell_match(line, address_matches(&mut folds, &query.prop_filter, text));
         }
         Ok(_) => line.add("no query"),
         Err(error) => line.add_value(&error),
