@@ -1,9 +1,10 @@
 -- Reads of a file, one after the other.
-use Rattle.std.proofs.Common.{◌≡◌, ◌≤◌, ◌+◌, ◌++◌, ℕ, add-zero, add_assoc, List, [], length, take, drop, true, None, Some, Result, Ok, Err, refl, sym, ap, subst, ◌∙◌, inl, inr, arith}
+use Rattle.std.proofs.Common.{◌≡◌, ◌≤◌, ◌+◌, ◌-◌, ◌++◌, ℕ, min, add-zero, add_assoc, List, [], length, take, drop, true, None, Some, Result, Ok, Err, refl, sym, ap, subst, ◌∙◌, inl, inr, arith}
 use Rattle.std.proofs.Math.Seq.{take-add}
 use Rattle.std.proofs.lemmas.List.{append-nil, drop-drop, take-append-drop, take_all}
 use Rattle.std.proofs.lemmas.Grind.{common_steps}
 use Rattle.dav_core.specs.declared.error.FsError.{FsError}
+use Rattle.dav_core.specs.declared.error.FsError.TheVariants.{NoMemory}
 use Rattle.dav_core.specs.Disk.{DiskState, can_read}
 use Rattle.dav_core.specs.Info.{Info}
 use Rattle.dav_core.specs.Unchanged.{KeepsBut}
@@ -11,7 +12,7 @@ use Rattle.dav_core.proofs.UnchangedLemmas.{but_then, keeps_but, keeps_same}
 use Rattle.dav_store.specs.Files.{Spoiled, moved_by, rest_of}
 use Rattle.dav_store.specs.Standing.{Seen}
 use Rattle.dav_store.specs.View.{View, Closes, Says, seen_in}
-use Rattle.dav_selection.specs.Pieces.{Appends, ClosesAfter, ReadSoFar, Touches}
+use Rattle.dav_selection.specs.Pieces.{Appends, Asks, ClosesAfter, InPieces, ReadSoFar, Touches, next_read, none_read, piece_size}
 use Rattle.dav_selection.specs.Resources.{ReadsTo}
 use Rattle.dav_store.proofs.Reading.{rose_from}
 
@@ -102,8 +103,8 @@ module _ {S C F : Type 0} (view : View S C F) where
   pub stops_after : ((a b c : S) → view.lends a b → view.lends b c → view.lends a c) → (s m t : S) (file g h : F) (len : ℕ) (e : FsError)
       → Touches view s file m g → Touches view m g t h
       → (can_read ((view.state m).live (view.file.handle g)) ≡ true → Spoiled {T = ℕ} (view.state m) (Err e) (view.state t))
-      → ReadsTo view s file len (Err e) t h
-  stops_after then s m t file g h len e p q refused =
+      → (had : ℕ) → InPieces view len s file had t h → ReadsTo view s file len (Err e) t h
+  stops_after then s m t file g h len e p q refused had pieces =
       let all = touches_then then s m t file g h p q in
       record {
         keeps = all.keeps;
@@ -114,13 +115,16 @@ module _ {S C F : Type 0} (view : View S C F) where
             (refused (ap (λ n. can_read ((view.state m).live n)) p.handle ∙ (ap can_read p.live ∙ can)));
         within = tt;
         told = λ f is. tt;
+        had = had;
+        pieces = pieces;
+        given = tt;
       }
 
   -- so many bytes were read
   pub full_after : (s t : S) (file h : F) (len : ℕ) (bytes : List ℕ) → Touches view s file t h
       → ((f : Seen) → seen_in view s file ≡ Some f → ReadSoFar view f bytes t h)
-      → length bytes ≡ len → ReadsTo view s file len (Ok bytes) t h
-  full_after s t file h len bytes p told long = record {
+      → length bytes ≡ len → InPieces view len s file (length bytes) t h → ReadsTo view s file len (Ok bytes) t h
+  full_after s t file h len bytes p told long pieces = record {
     keeps = p.keeps;
     live = p.live;
     handle = p.handle;
@@ -128,6 +132,9 @@ module _ {S C F : Type 0} (view : View S C F) where
     refused = λ can. tt;
     within = omega arith;
     told = λ f is. let far = told f is in far.front ∙ ap (λ k. take k (rest_of f)) long;
+    had = length bytes;
+    pieces = pieces;
+    given = refl;
   }
 
   -- no byte came
@@ -135,8 +142,8 @@ module _ {S C F : Type 0} (view : View S C F) where
       → Touches view s file m g → Touches view m g t h
       → ((f : Seen) → seen_in view s file ≡ Some f → ReadSoFar view f bytes m g)
       → ((f : Seen) → seen_in view m g ≡ Some f → Appends view f bytes (Ok n) new t h)
-      → n ≡ 0 → length bytes + left ≡ len → length new ≡ length bytes + n → ReadsTo view s file len (Ok new) t h
-  ends_after then s m t file g h len left n bytes new p q told next none count long =
+      → n ≡ 0 → length bytes + left ≡ len → length new ≡ length bytes + n → InPieces view len s file (length new) t h → ReadsTo view s file len (Ok new) t h
+  ends_after then s m t file g h len left n bytes new p q told next none count long pieces =
       let all = touches_then then s m t file g h p q in
       let most : length new ≤ len = omega arith in
       let same : length new ≡ length bytes = omega arith in
@@ -153,4 +160,33 @@ module _ {S C F : Type 0} (view : View S C F) where
             let on = so_far_more f bytes new n m t g h far more long in
             let over : drop (length bytes) (rest_of f) ≡ [] = drop-drop (length bytes) f.place f.stands.bytes ∙ more.3 none in
             all_there len (rest_of f) new on.front on.within most (ap (λ k. drop k (rest_of f)) same ∙ over);
+        had = length new;
+        pieces = pieces;
+        given = refl;
       }
+
+  -- memory for the first piece was refused
+  pub starved_before : (s : S) (file : F) (len : ℕ) → view.lends s s → ReadsTo view s file len (Err NoMemory) s file
+  starved_before s file len same =
+      let touches = touches_same s file same in
+      record {
+        keeps = touches.keeps;
+        live = touches.live;
+        handle = touches.handle;
+        lent = touches.lent;
+        refused = λ can. inr refl;
+        within = tt;
+        told = λ f is. tt;
+        had = 0;
+        pieces = none_read;
+        given = tt;
+      }
+
+  -- one read more
+  pub pieces_more : (len left size n new : ℕ) (had : ℕ) (s m t : S) (file g h : F) → InPieces view len s file had m g → Asks view (min left size) n m g t h
+      → had + left ≡ len → size ≡ piece_size → had + n ≡ new → InPieces view len s file new t h
+  pieces_more len left size n new had s m t file g h before asks count is all =
+      let rest : left ≡ len - had = omega (arith, count) in
+      let here = subst (λ (k : ℕ). Asks view (min k size) n m g t h) rest asks in
+      let piece = subst (λ (k : ℕ). Asks view (min (len - had) k) n m g t h) is here in
+      subst (λ (k : ℕ). InPieces view len s file k t h) all (next_read had n m t g h before piece)

@@ -12,6 +12,7 @@ use Rattle.dav_store.specs.Files.{Spoiled, rest_of}
 use Rattle.dav_store.specs.Frames.{OpensOne}
 use Rattle.dav_store.specs.Standing.{Seen}
 use Rattle.dav_store.specs.View.{View, Closes, Lent, Says, seen_in}
+use Rattle.dav_selection.specs.Pieces.{InPieces}
 use Rattle.dav_selection.specs.declared.resource.Resource.{Resource}
 use Rattle.dav_selection.specs.declared.resource.Unread.{Unread}
 use Rattle.dav_selection.specs.declared.resource.Unread.TheVariants.{Unsaid, Refused, NoMemory}
@@ -41,6 +42,10 @@ module _ {S C F : Type 0} (view : View S C F) where
         → OnErr result (Spoiled (view.state s) result (view.state t))
     pub within : IfOk result (λ bytes. length bytes ≤ len)
     pub told : (f : Seen) → seen_in view s file ≡ Some f → IfOk result (λ bytes. bytes ≡ take len (rest_of f))
+    -- how many bytes were read, and in which pieces: those that it gives
+    pub had : ℕ
+    pub pieces : InPieces view len s file had t after
+    pub given : IfOk result (λ bytes. length bytes ≡ had)
 
   -- What is no regular file isn't read.
   abbrev pub AfterKind : Bool → Info → F → S → Result Resource Unread → S → Type 0

@@ -1,11 +1,11 @@
 // Reading a resource of a store.
-ghost use Rattle.std.specs.Prelude.{◌≡◌, ◌⊎◌, ◌<◌, ◌≤◌, ◌+◌, IfOk, OnErr, IsSome, Some, Err, Ok, length, unwrap_or, [], true};
+ghost use Rattle.std.specs.Prelude.{◌≡◌, ◌⊎◌, ◌<◌, ◌≤◌, ◌+◌, IfOk, OnErr, IsSome, Some, Err, Ok, length, min, unwrap_or, [], true, ℕ};
 ghost use Rattle.dav_core.specs.Disk.{Live, can_read};
 ghost use Rattle.dav_core.specs.Unchanged.{KeepsBut};
 ghost use Rattle.dav_store.specs.Files.{Spoiled};
 ghost use Rattle.dav_store.specs.Standing.{Seen};
 ghost use Rattle.dav_store.specs.View.{Stays};
-ghost use Rattle.dav_selection.specs.Pieces.{Appends, ClosesAfter, Touches};
+ghost use Rattle.dav_selection.specs.Pieces.{Appends, Asks, ClosesAfter, Touches};
 ghost use Rattle.dav_selection.specs.Resources.{AfterMeta, AfterOpen, Fetches, ReadsTo, content_of};
 
 use crate::resource::{Resource, Unread};
@@ -14,7 +14,7 @@ use dav_io::{NoMemory, Octets, Text};
 use dav_store::{GuardedFileSystem, file_close, file_metadata, file_read};
 use std::alloc::Global;
 
-/// The most bytes that are asked for at once.
+/// The most bytes that are asked for at once, `piece_size` of the contracts.
 const PIECE: usize = 16_384;
 
 // Reads a piece of the file, at most so many bytes, and appends it. It answers how many they are.
@@ -33,6 +33,8 @@ fn read_piece<S: GuardedFileSystem<C>, C>(
     ensures reads_from { S.view.file.reads_from file.new (S.view.state fs.new) }
     ensures refused { can_read ((S.view.state fs.old).live (S.view.file.handle file.old)) ≡ true
         → OnErr result (Spoiled (S.view.state fs.old) result (S.view.state fs.new)) }
+    ensures asks { (n : ℕ) × Asks S.view (min left (length buffer.old)) n fs.old file.old fs.new file.new
+        × IfOk result (λ count. count ≡ n) }
     ensures within { IfOk result (λ n. n ≤ left) }
     ensures len { IfOk result (λ n. length bytes.new.items ≡ length bytes.old.items + n) }
     ensures told { (f : Seen) → S.view.file.seen file.old (S.view.state fs.old) ≡ Some f
