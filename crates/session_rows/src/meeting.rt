@@ -12,8 +12,9 @@ use std::alloc::Global;
 use std::sync::atomic::{AtomicU64, Ordering};
 use std::thread::yield_now;
 
-// How often a disk looks for the others before it goes on without them. It is about a second where nothing else runs.
-const TURNS: u64 = 1_000_000;
+// How often a disk looks for the others before it goes on without them. It is some tenths of a second where nothing else
+// runs, and a row whose disks do not meet waits so long once.
+const TURNS: u64 = 200_000;
 
 /// At which of its calls a disk waits.
 #[derive(Clone, Copy, PartialEq, Eq)]
