@@ -41,6 +41,14 @@ ssize_t read(int fd, void *into, size_t count) {
     return real(fd, into, most(count));
 }
 
+ssize_t pread(int fd, void *into, size_t count, off_t place) {
+    static ssize_t (*real)(int, void *, size_t, off_t);
+    if (!real) real = (ssize_t (*)(int, void *, size_t, off_t))dlsym(RTLD_NEXT, "pread");
+    return real(fd, into, most(count), place);
+}
+
+ssize_t pread64(int fd, void *into, size_t count, off_t place) { return pread(fd, into, count, place); }
+
 ssize_t write(int fd, const void *from, size_t count) {
     static ssize_t (*real)(int, const void *, size_t);
     if (!real) real = (ssize_t (*)(int, const void *, size_t))dlsym(RTLD_NEXT, "write");
