@@ -47,8 +47,6 @@ ssize_t pread(int fd, void *into, size_t count, off_t place) {
     return real(fd, into, most(count), place);
 }
 
-ssize_t pread64(int fd, void *into, size_t count, off_t place) { return pread(fd, into, count, place); }
-
 ssize_t write(int fd, const void *from, size_t count) {
     static ssize_t (*real)(int, const void *, size_t);
     if (!real) real = (ssize_t (*)(int, const void *, size_t))dlsym(RTLD_NEXT, "write");
