@@ -10,7 +10,7 @@ use crate::literals::{AFTER_ROWS, BEFORE_HEADING, BEFORE_ROWS, BEFORE_TITLE};
 use crate::order::listed;
 use crate::rows::push_rows;
 use dav_core::{DavPath, Member, is_plain};
-use dav_io::{NoMemory, Text};
+use dav_io::{NoMemory, Octets, Text};
 use htmlescape::encode_minimal;
 use std::alloc::Global;
 
@@ -24,28 +24,27 @@ fn title_text(alloc: Global, dir: &DavPath) -> Result<Text, NoMemory>
 }
 
 // What stands before the rows of a directory's page.
-fn head_text(alloc: Global, dir: &DavPath) -> Result<Text, NoMemory>
+fn head_text(alloc: Global, dir: &DavPath) -> Result<Octets, NoMemory>
     ensures { IfOk result (HasHead dir.now) }
 {
     let title = title_text(alloc, dir)?;
     let heading = display_path(alloc, dir)?;
-    let text = Text::new(format!(in alloc;
+    let text = format!(in alloc;
         "{}{}{}{}{}",
         BEFORE_TITLE,
         title.as_str(),
         BEFORE_HEADING,
         heading.as_str(),
         BEFORE_ROWS
-    )?);
-    let _utf8 = text.as_str();
-    Ok(text)
+    )?;
+    Ok(Octets::new(text.into_bytes()))
 }
 
 // What stands behind the rows.
-fn end_text(alloc: Global) -> Result<Text, NoMemory>
+fn end_text(alloc: Global) -> Result<Octets, NoMemory>
     ensures { IfOk result (λ text. text ≡ after_rows) }
 {
-    Ok(Text::copy(alloc, AFTER_ROWS)?)
+    Ok(Octets::new(Vec::from_slice(alloc, AFTER_ROWS.as_bytes())?))
 }
 
 /// Whether the names of all members are plain, as `index_page` needs them.
@@ -63,7 +62,11 @@ pub fn has_plain_names(members: &[Member]) -> bool
 ///
 /// Members whose names begin with a dot aren't shown. Directories come first; within a kind the lesser name does, by
 /// its bytes, where a directory's name has a slash behind it. A time before 1970 or after 9999 is shown as unknown.
-pub fn index_page(alloc: Global, dir: &DavPath, members: Vec<Member>) -> Result<Vec<Text>, NoMemory>
+pub fn index_page(
+    alloc: Global,
+    dir: &DavPath,
+    members: Vec<Member>,
+) -> Result<Vec<Octets>, NoMemory>
     requires { list_all has_plain_name members.items ≡ true }
     ensures page { IfOk result (λ texts. IsIndex dir.now (AreRows dir.now members.items) texts.items) }
     ensures sound { IfOk result (λ texts. IsIndex dir.now (AreSound dir.now) texts.items) }

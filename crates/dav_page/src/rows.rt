@@ -9,7 +9,7 @@ ghost use Rattle.dav_page.specs.Index.{IsRowBelow, IsRowText};
 
 use crate::dates::{push_date, push_size_of};
 use dav_core::{DavPath, Kind, Member, link_of, push_link};
-use dav_io::{NoMemory, Text};
+use dav_io::{NoMemory, Octets, Text};
 use htmlescape::encode_minimal;
 use std::alloc::Global;
 
@@ -77,7 +77,7 @@ pub(crate) fn push_rows(
     alloc: Global,
     dir: &DavPath,
     members: &[Member],
-    texts: &mut Vec<Text>,
+    texts: &mut Vec<Octets>,
 ) -> Result<(), NoMemory>
     ensures { OnOk result ((rows : List (List ℕ)) × (texts.new.items ≡ texts.old.items ++ rows)
         × AllZip (IsRowText dir.now) members.now rows) }
@@ -87,7 +87,7 @@ pub(crate) fn push_rows(
     let mut row = String::new(alloc);
     for member in members {
         write_row(alloc, &mut row, below.as_str(), member)?;
-        texts.push(Text::copy(alloc, row.as_str())?)?;
+        texts.push(Octets::new(Vec::from_slice(alloc, row.as_bytes())?))?;
     }
     Ok(())
 }

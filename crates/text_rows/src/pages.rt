@@ -7,22 +7,26 @@
 //!                                 are written as `%XX`
 //!     heading PREFIX PATH         what `display_path` shows of a path
 //!     page PREFIX PATH MEMBERS    the texts of the page of a directory, with a blank between them, written so as well
-//!     back PREFIX PATH MEMBERS    what `read` says of these texts joined
+//!     back PREFIX PATH MEMBERS    what `read` says of these texts joined, which are `no text` where they aren't UTF-8
 //!
 //! A prefix is `-` where there is none. Members have `;` between them and are `-` where there are none; each is its
 //! kind (`d`, `f` or `l`), its length, its time in seconds since 1970 or `-`, and its name, with `,` between them.
 //! Where there is no such path the answer is `no path`, and where a name isn't plain `no member`.
 
 use dav_core::{DavPath, FileTime, Kind, Member};
-use dav_io::{NoMemory, Text};
+use dav_io::{NoMemory, Octets, Text};
 use dav_page::{PageRow, display_path, display_size, has_plain_names, index_page, read_page};
 use dav_rows::{Line, text_of};
 use percent_encoding::CONTROLS;
 use std::alloc::{AllocError, Global};
 
-// Adds a text as a cell spells it.
+// Adds bytes as a cell spells them.
+fn add_escaped(line: &mut Line, bytes: &[u8]) {
+    line.add_bytes(bytes, CONTROLS.add(b'%').add(b' ').add(b';'));
+}
+
 fn add(line: &mut Line, text: &Text) {
-    line.add_bytes(text.as_slice(), CONTROLS.add(b'%').add(b' ').add(b';'));
+    add_escaped(line, text.as_slice());
 }
 
 fn add_row(line: &mut Line, row: &PageRow) {
@@ -120,27 +124,30 @@ fn members_of(alloc: Global, cell: &str) -> Result<Vec<Member>, NoMemory> {
 }
 
 // Adds texts as `page` spells them.
-fn spell(line: &mut Line, texts: &[Text]) {
+fn spell(line: &mut Line, texts: &[Octets]) {
     for (i, text) in texts.iter().enumerate() {
         if i > 0 {
             line.add(" ");
         }
-        add(line, text);
+        add_escaped(line, text.as_slice());
     }
 }
 
-fn joined(alloc: Global, texts: &[Text]) -> Result<String, AllocError> {
-    let mut page = String::new(alloc);
+fn joined(alloc: Global, texts: &[Octets]) -> Result<Vec<u8>, AllocError> {
+    let mut page = Vec::new(alloc);
     for text in texts {
-        page.push_str(text.as_str())?;
+        page.extend_from_slice(text.as_slice())?;
     }
     Ok(page)
 }
 
 // Adds what a reader takes from the texts joined.
-fn read_back(alloc: Global, line: &mut Line, texts: &[Text]) {
+fn read_back(alloc: Global, line: &mut Line, texts: &[Octets]) {
     match joined(alloc, texts) {
-        Ok(page) => read(alloc, line, page.as_str()),
+        Ok(page) => match str::from_utf8(page.as_slice()) {
+            Ok(page) => read(alloc, line, page),
+            Err(_) => line.add("no text"),
+        },
         Err(_) => line.refuse(),
     }
 }
@@ -149,7 +156,7 @@ fn write(
     alloc: Global,
     dir: &DavPath,
     members: Vec<Member>,
-) -> Result<Option<Vec<Text>>, NoMemory> {
+) -> Result<Option<Vec<Octets>>, NoMemory> {
     if !has_plain_names(members.as_slice()) {
         return Ok(None);
     }
