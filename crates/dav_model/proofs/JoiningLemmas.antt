@@ -29,7 +29,7 @@ use Rattle.dav_model.specs.Conditions.{Fields, fields_of}
 use Rattle.dav_model.specs.Written.{Makes, MakesAs, PartOf, ask_of}
 use Rattle.dav_model.specs.Trail.{Point, Move, Goes, Leaves, is_writing, step_leaves, target_of, last_of, steps_of, answers_of, points_of}
 use Rattle.dav_model.specs.Valid.{IsRegular, Valid, Occurs}
-use Rattle.dav_model.specs.Play.{AreFull, AsksUnanswered, MakesUnanswered, Playing, Stage, Stands, Stepped, StaysOpen, Plays, Ends, Played, Learned}
+use Rattle.dav_model.specs.Play.{AreFull, AsksUnanswered, MakesUnanswered, Playing, Stage, Stands, Stepped, TellsOpen, Plays, Ends, Played, Learned}
 
 -- ---- lists
 
@@ -172,6 +172,15 @@ valid_back rules k l s xs ys v learned =
 
 -- ---- runs
 
+-- A run of steps at which no memory was refused ends where its trail leads, with no step left.
+pub record Over (rest : List Step) (m b : Stage) : Type 0 where
+  pub none : rest ≡ []
+  pub at : b ≡ m
+
+pub over : (rest : List Step) (m b : Stage) → Ends (Ok tt) rest m b → Over rest m b
+over [] m b e = record { none = refl; at = e }
+over (x ∷ rest) m b e = absurd e
+
 -- two trails, the second from the end of the first
 pub plays_join : (p m q : Playing) (s : Point) (xs ys : List Move) → Plays p s xs m → Plays m (last_of s xs) ys q → Plays p s (xs ++ ys) q
 plays_join p m q s [] ys e b = rw (← e) b
@@ -179,7 +188,7 @@ plays_join p m q s (x ∷ xs) ys (n, st, o, rest) b = (n, st, o, plays_join n m 
 
 join : (xs ys : List Move) (a m b : Stage) (steps steps' : List Step) (old new new' : List Answer) (result : Result Unit NoMemory)
     (rest rest' : List Step) (player player' : Playing)
-    → steps ≡ steps_of xs ++ rest → new ≡ old ++ answers_of xs → StaysOpen a.at a.playing → AreFull a.playing → Plays a.playing a.at xs player
+    → steps ≡ steps_of xs ++ rest → new ≡ old ++ answers_of xs → TellsOpen a.at a.playing → AreFull a.playing → Plays a.playing a.at xs player
     → Ends (Ok tt) rest (record { at = last_of a.at xs; playing = player }) m
     → steps' ≡ steps_of ys ++ rest' → new' ≡ [] ++ answers_of ys → Plays m.playing m.at ys player'
     → Ends result rest' (record { at = last_of m.at ys; playing = player' }) b
@@ -264,7 +273,7 @@ played_learned trail a b steps old new result x told =
 -- ---- step by step
 
 -- nothing was played so far
-pub none_played : (a : Stage) (steps : List Step) (old : List Answer) → StaysOpen a.at a.playing → AreFull a.playing → steps ≡ [] → Played [] a steps old old (Ok tt) a
+pub none_played : (a : Stage) (steps : List Step) (old : List Answer) → TellsOpen a.at a.playing → AreFull a.playing → steps ≡ [] → Played [] a steps old old (Ok tt) a
 none_played a steps old held full none = record {
   rest = [];
   player = a.playing;
@@ -350,7 +359,7 @@ makes_unanswered rules k (Purge now) e s = leaves_same s
 makes_unanswered rules k Turn e s = (leaves_same s, refl)
 
 -- a step that was not begun leaves all as it was
-pub not_begun : (m : Stage) (step : Step) (e : NoMemory) → StaysOpen m.at m.playing → Stepped m step (Err e) m
+pub not_begun : (m : Stage) (step : Step) (e : NoMemory) → TellsOpen m.at m.playing → Stepped m step (Err e) m
 not_begun m step e held = record {
   goes = stays_goes m.at;
   makes = λ f. makes_unanswered m.playing.rules m.playing.knows step f m.at;
@@ -427,10 +436,6 @@ pub record TwoSteps (a : Stage) (x y : Step) (first second : Answer) (b : Stage)
   pub two : Stands mid.playing mid.at b.at y second b.playing
   pub counts : a.at.faults ≤ mid.at.faults
 
-ends_at : (rest : List Step) (m b : Stage) → Ends (Ok tt) rest m b → (b ≡ m) × (rest ≡ [])
-ends_at [] m b e = (e, refl)
-ends_at (x ∷ rest) m b e = elim e [ ]
-
 steps_two : (xs : List Move) (x y : Step) → x ∷ y ∷ [] ≡ steps_of xs → (m n : Move) × (xs ≡ m ∷ n ∷ []) × (m.step ≡ x) × (n.step ≡ y)
 steps_two [] x y e = cc
 steps_two (m ∷ []) x y e = cc
@@ -448,12 +453,12 @@ two_of a b q m n (k, first, o, (l, second, u, is)) e =
 
 pub two_steps : (trail : List Move) (a : Stage) (x y : Step) (first second : Answer) (b : Stage) → Played trail a (x ∷ y ∷ []) [] (first ∷ second ∷ []) (Ok tt) b → TwoSteps a x y first second b
 two_steps trail a x y first second b played =
-    let (at_end, none) = ends_at played.rest (record { at = last_of a.at trail; playing = played.player }) b played.ends in
-    let steps : x ∷ y ∷ [] ≡ steps_of trail = played.steps_are ∙ ap (λ z. steps_of trail ++ z) none ∙ append-nil (steps_of trail) in
+    let end = over played.rest (record { at = last_of a.at trail; playing = played.player }) b played.ends in
+    let steps : x ∷ y ∷ [] ≡ steps_of trail = played.steps_are ∙ ap (λ z. steps_of trail ++ z) end.none ∙ append-nil (steps_of trail) in
     let (m, n, is, one, two) = steps_two trail x y steps in
     let answers : first ∷ second ∷ [] ≡ m.answer ∷ n.answer ∷ [] = played.answers_are ∙ ap answers_of is in
     let plays : Plays a.playing a.at (m ∷ n ∷ []) played.player = subst (λ z. Plays a.playing a.at z played.player) is played.answered in
-    let stage : b ≡ record { at = n.to; playing = played.player } = at_end ∙ ap (λ z. record { at = last_of a.at z; playing = played.player }) is in
+    let stage : b ≡ record { at = n.to; playing = played.player } = end.at ∙ ap (λ z. record { at = last_of a.at z; playing = played.player }) is in
     let both = two_of a b played.player m n plays stage in
     let f : m.answer ≡ first = cc in
     let g : n.answer ≡ second = cc in

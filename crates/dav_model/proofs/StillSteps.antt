@@ -55,7 +55,7 @@ stands_forgotten p q s t (Purge now) a (d, same, (k, is, f)) = (d, same, (p.know
 stands_forgotten p q s t Turn a (quiet, turned_, live, is) = (quiet, turned_, live, ap (knowing p.knows) is)
 
 pub stepped_forgotten : (a b : Stage) (x : Step) (answer : Answer) → Stepped a x (Ok answer) b → Stepped a x (Ok answer) (knowing_at a.playing.knows b)
-stepped_forgotten a b x answer (st, held) = (stands_forgotten a.playing b.playing a.at b.at x answer st, held)
+stepped_forgotten a b x answer (st, held) = (stands_forgotten a.playing b.playing a.at b.at x answer st, record { world = held.world; files = held.files })
 
 -- ---- the world stands still
 

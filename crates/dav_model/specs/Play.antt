@@ -13,7 +13,7 @@ use Rattle.dav_core.specs.Writing.{reading}
 use Rattle.dav_core.specs.Path.{Names}
 use Rattle.dav_core.specs.Tree.{is_linked}
 use Rattle.dav_core.specs.Unchanged.{SameBesidesOpens}
-use Rattle.dav_core.specs.World.{World, put, number_of}
+use Rattle.dav_core.specs.World.{IsWorld, World, put, number_of}
 use Rattle.dav_model.specs.declared.step.Step.{Step}
 use Rattle.dav_model.specs.declared.step.Step.TheVariants.{Request, Poll, Abandon, Purge, Turn}
 use Rattle.dav_model.specs.declared.answer.Answer.{Answer}
@@ -89,6 +89,15 @@ HasOpen w file (slice number start count) = (h : ℕ) × (file ≡ Some h) × (n
 
 abbrev pub StaysOpen : Point → Playing → Type 0
 StaysOpen t q = (w : World) → t.told ≡ Some w → (body : ℕ) → AllByRecursion (HasOpen w (q.held body)) (q.left body)
+
+-- what is told at a point is a world
+abbrev pub TellsWorld : Point → Type 0
+TellsWorld t = (w : World) → t.told ≡ Some w → IsWorld w
+
+-- What holds of a player at every point of a run: a world is told there, and the files of the bodies are open in it.
+pub record TellsOpen (t : Point) (q : Playing) : Type 0 where
+  pub world : TellsWorld t
+  pub files : StaysOpen t q
 
 -- no part that a body has left is empty
 abbrev pub AreFull : Playing → Type 0
@@ -187,7 +196,7 @@ pub record Refuses (p : Playing) (s t : Point) (step : Step) (q : Playing) : Typ
   pub knows : Knowledge
   pub learns : Learns s.told p.knows knows
   pub is : q ≡ record p { knows = knows }
-  pub held : StaysOpen t q
+  pub held : TellsOpen t q
   pub asks : AsksUnanswered p.rules step s.asked t.asked
 
 -- ---- runs
@@ -195,7 +204,7 @@ pub record Refuses (p : Playing) (s t : Point) (step : Step) (q : Playing) : Typ
 -- The answers to the steps along a trail.
 abbrev pub Plays : Playing → Point → List Move → Playing → Type 0
 Plays p s [] q = q ≡ p
-Plays p s (move ∷ moves) q = (m : Playing) × Stands p s move.to move.step move.answer m × StaysOpen move.to m
+Plays p s (move ∷ moves) q = (m : Playing) × Stands p s move.to move.step move.answer m × TellsOpen move.to m
     × Plays m move.to moves q
 
 -- a player over its disk at a moment
@@ -216,14 +225,14 @@ pub record Played (trail : List Move) (a : Stage) (steps : List Step) (old new :
   pub player : Playing
   pub steps_are : steps ≡ steps_of trail ++ rest
   pub answers_are : new ≡ old ++ answers_of trail
-  pub held : StaysOpen a.at a.playing
+  pub held : TellsOpen a.at a.playing
   pub full : AreFull a.playing
   pub answered : Plays a.playing a.at trail player
   pub ends : Ends result rest (record { at = last_of a.at trail; playing = player }) b
 
 -- One step by itself.
 abbrev pub Stepped : Stage → Step → Result Answer NoMemory → Stage → Type 0
-Stepped a step (Ok answer) b = Stands a.playing a.at b.at step answer b.playing × StaysOpen b.at b.playing
+Stepped a step (Ok answer) b = Stands a.playing a.at b.at step answer b.playing × TellsOpen b.at b.playing
 Stepped a step (Err e) b = Refuses a.playing a.at b.at step b.playing
 
 -- What is known at exit was known at entry, or a world of the trail shows it. It is the same trail in both.
