@@ -10,6 +10,7 @@ pub mod Shown
 pub mod Whole
 pub mod Calendar
 pub mod RowsWritten
+mod Bare
 pub mod Crumbs
 pub mod PageMade
 pub mod Inside

@@ -1,6 +1,6 @@
 // The rows of a page.
-ghost use Rattle.std.specs.Prelude.{◌≡◌, ◌++◌, IfOk, OnOk, IsUtf8, List, ℕ, string_bytes, true};
-ghost use Rattle.std.specs.List.{AllZip};
+ghost use Rattle.std.specs.Prelude.{◌≡◌, ◌==◌, ◌++◌, IfOk, OnOk, IsUtf8, List, ℕ, codes, string_bytes, true};
+ghost use Rattle.std.specs.List.{AllZip, list_any};
 ghost use Rattle.dav_core.specs.DavPath.{final_slash, link_of as the_link_of, shown};
 ghost use Rattle.dav_core.specs.Tree.{is_dir};
 ghost use Rattle.dav_page.specs.Listed as listed;
@@ -42,14 +42,38 @@ fn push_link_below(row: &mut String, below: &str, member: &Member) -> Result<(),
     push_slash(row, member)
 }
 
+// One of the bytes for which an entity stands.
+fn is_escaped(b: u8) -> bool
+    ensures { result ≡ list_any (λ m. b == m) (codes "\"&'<>") }
+{
+    b == b'"' || b == b'&' || b == b'\'' || b == b'<' || b == b'>'
+}
+
+// Whether something of a name is escaped.
+fn has_escaped(name: &str) -> bool
+    ensures { result ≡ list_any (λ b. list_any (λ m. b == m) (codes "\"&'<>")) name.now }
+{
+    name.as_bytes().iter().any(|b| is_escaped(*b))
+}
+
+// Appends the text of a name. Where nothing is escaped it is the name itself.
+fn push_text(alloc: Global, row: &mut String, name: &str) -> Result<(), NoMemory>
+    ensures { OnOk result (string_bytes row.new ≡ string_bytes row.old ++ index.name_text name.now) }
+{
+    if has_escaped(name) {
+        let text = encode_minimal(alloc, name)?;
+        return Ok(row.push_str(text.as_str())?);
+    }
+    Ok(row.push_str(name)?)
+}
+
 // Appends the text of a member's name.
 fn push_name(alloc: Global, row: &mut String, member: &Member) -> Result<(), NoMemory>
     ensures text { OnOk result (string_bytes row.new ≡ string_bytes row.old
         ++ index.name_text (listed.shown_name member.now)) }
     ensures utf8 { OnOk result (IsUtf8 member.now.name) }
 {
-    let name = encode_minimal(alloc, member.name.as_str())?;
-    row.push_str(name.as_str())?;
+    push_text(alloc, row, member.name.as_str())?;
     push_slash(row, member)?;
     Ok(())
 }

@@ -11,6 +11,5 @@ returns-clause-text c =
     let name = c.args.member.now.name in
     let slash = is_dir c.args.member.now.kind in
     c.in_ok-push_slash.ensures
-    ∙ (ap (λ t. t ++ final_slash slash)
-    (c.in_ok-push_str.ensures.bytes ∙ ap (λ t. row ++ t) (c.as_str-2.ensures.value ∙ (c.in_ok-name.ensures ∙ ap name_text c.as_str.ensures.value)))
+    ∙ (ap (λ t. t ++ final_slash slash) (c.in_ok-push_text.ensures ∙ ap (λ t. row ++ name_text t) c.as_str.ensures.value)
     ∙ (append_assoc row (name_text name) (final_slash slash) ∙ ap (λ t. row ++ t) (sym (name_ended name slash c.as_str.ensures.utf8))))
