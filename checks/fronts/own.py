@@ -471,11 +471,10 @@ def try_own(work, tally, parts=PARTS):
 def try_own_fast(work, tally, parts=FAST):
     """The same by --fast, in a folder of its own, with the program that the copy's deploy/fast makes."""
     lacking = [name for name in ("cc", "objcopy", "rt") if not shutil.which(name)]
-    if not (TOP / "crates/davserve/out/davserve.o").exists():
-        lacking.append("crates/davserve/out/davserve.o")
     if lacking:
         tally.leave_out(f"all of ./serve --fast, for want of {' '.join(lacking)}")
     elif is_reached(tally):
+        subprocess.run([TOP / "deploy/object"], check=True)
         program = work.at / "tmp/davserve-fast"
         link_fast(work, program)
         work.words, work.env = ("--fast",), {"DAVSERVE_PROGRAM": str(program)}
