@@ -1,5 +1,5 @@
 #define _GNU_SOURCE
-/* What serving files over standard input and output costs by itself: GET of a regular file, of one range or of the page of a
+/* What serving files over standard input and output costs by itself: GET of a regular file, of ranges or of the page of a
  * directory, and 304 by an equal tag; the fields of a request are read, and nothing is checked. One buffer of 16 KiB; the
  * head and the first bytes leave in one write. It is a yardstick and no server.
  *   floor ROOT [look] [clear] [joined]
@@ -132,12 +132,57 @@ static void list(int file, const char *target, int length) {
 struct asked {
   const char *range, *tag;
   int tag_length;
+  bool several;
 };
 
 /* The entity tag of a file. */
 static int tag_of(char *into, size_t room, const struct stat *meta) {
   return snprintf(into, room, "\"%lx-%lx-%lx\"", (long)meta->st_ino, (long)meta->st_size,
       (long)(meta->st_mtim.tv_sec * 1000000 + meta->st_mtim.tv_nsec / 1000));
+}
+
+/* A part of a file, and the head that stands before it. */
+struct part {
+  long long first, count;
+  int length;
+  char head[128];
+};
+
+enum { PARTS = 64 };
+static const char behind[] = "\n--BOUNDARY--\n";
+
+/* The parts that are asked for, FIRST-LAST each. */
+static size_t parts_of(struct part *parts, const char *range, long long size) {
+  size_t count = 0;
+  for (char *next; count < PARTS; range = next + 1) {
+    struct part *part = &parts[count++];
+    part->first = strtoll(range, &next, 10);
+    long long last = strtoll(next + 1, &next, 10);
+    part->count = last + 1 - part->first;
+    part->length = snprintf(part->head, sizeof part->head,
+        "\n--BOUNDARY\ncontent-range: bytes %lld-%lld/%lld\ncontent-type: application/octet-stream\n\n", part->first, last, size);
+    if (*next != ',') break;
+  }
+  return count;
+}
+
+/* Several parts of a file, of at most a piece each. (Its head says 200, which costs as much.) */
+static void answer_parts(int file, const struct stat *meta, const char *range) {
+  static char out[HEAD + PIECE + PIECE];
+  static struct part parts[PARTS];
+  size_t count = parts_of(parts, range, meta->st_size);
+  long long length = sizeof behind - 1;
+  for (size_t i = 0; i < count; i++) length += parts[i].length + parts[i].count;
+  size_t held = head_of(out, meta, 200, 0, length);
+  for (size_t i = 0; i < count; i++) {
+    memcpy(out + held, parts[i].head, (size_t)parts[i].length);
+    held += (size_t)parts[i].length;
+    if (pread(file, out + held, (size_t)parts[i].count, parts[i].first) != parts[i].count) exit(5);
+    held += (size_t)parts[i].count;
+    if (held > PIECE) tell(out, held), held = 0;
+  }
+  memcpy(out + held, behind, sizeof behind - 1);
+  tell(out, held + sizeof behind - 1);
 }
 
 static void answer(const char *root, const char *target, int length, struct asked asked) {
@@ -151,6 +196,11 @@ static void answer(const char *root, const char *target, int length, struct aske
   if (S_ISDIR(meta.st_mode)) {
     leave();
     list(file, target, length);
+    return;
+  }
+  if (asked.range != NULL && asked.several) {
+    answer_parts(file, &meta, asked.range);
+    close(file);
     return;
   }
   long long first = 0, last = meta.st_size - 1;
@@ -179,10 +229,11 @@ static void answer(const char *root, const char *target, int length, struct aske
 
 /* Reads the fields of a head, line by line. */
 static struct asked fields_of(const char *line, const char *last) {
-  struct asked asked = {NULL, NULL, 0};
+  struct asked asked = {NULL, NULL, 0, false};
   for (; line < last + 2; line = (const char *)memchr(line, '\n', (size_t)(last + 2 - line)) + 1) {
     if (strncasecmp(line, "range: bytes=", 13) == 0) {
       asked.range = line + 13;
+      asked.several = memchr(line, ',', (size_t)((const char *)memchr(line, '\r', (size_t)(last + 2 - line)) - line)) != NULL;
     } else if (strncasecmp(line, "if-none-match: ", 15) == 0) {
       asked.tag = line + 15;
       asked.tag_length = (int)((const char *)memchr(line, '\r', (size_t)(last + 2 - line)) - asked.tag);

@@ -4,8 +4,9 @@
     ./bench/ratios.py PROGRAM [--pipes] [--rounds N]
 
 PROGRAM is davserve. Rounds of both are interleaved, over a socket pair or pipes, and the least of each counts. The rows are a GET
-of 10 bytes, a range of 4 KiB, a 304, a HEAD and a 404, with 32 and one in flight, and a GET of 256 MiB. The floor knows no HEAD and
-no 404: those are beside its GET. The last line has one figure for each row. It wants `cc`, and takes a quarter of a minute.
+of 10 bytes, a range of 4 KiB, sixteen ranges of 256 bytes in one answer, a 304, a HEAD and a 404, with 32 and one in flight, a GET
+of 256 MiB, with the default buffer and with that of ./serve, and the page of 10,000 files. The floor knows no HEAD and no 404: those
+are beside its GET. The last line has one figure for each row. It wants `cc`, and takes a minute.
 """
 import argparse
 import os
@@ -16,6 +17,7 @@ import tempfile
 HERE = os.path.dirname(os.path.abspath(__file__))
 FIELDS = b"Host: h\r\nUser-Agent: curl/7.88.1\r\nAccept: */*\r\n"
 COUNTS = {32: 12_000, 1: 5_000}
+PAGES = 5
 
 
 def ends_of(command, by_pipes):
@@ -61,7 +63,9 @@ def rows_for(ours):
     get = request_for("GET", "/f.txt")
     tag = [line for line in answer_to(ours, get).split(b"\r\n") if line.startswith(b"etag")][0][6:]
     part = request_for("GET", "/long.bin", b"Range: bytes=1000000-1004095\r\n")
-    return [("GET", get, get), ("range", part, part),
+    places = ",".join(f"{at}-{at + 255}" for at in range(1_000_000, 17_000_000, 1_000_000))
+    parts = request_for("GET", "/long.bin", f"Range: bytes={places}\r\n".encode())
+    return [("GET", get, get), ("range", part, part), ("ranges", parts, parts),
             ("304", *[request_for("GET", "/f.txt", b"If-None-Match: " + tag + b"\r\n")] * 2),
             ("HEAD", request_for("HEAD", "/f.txt"), get), ("404", request_for("GET", "/no.txt"), get)]
 
@@ -91,6 +95,10 @@ def measure(given, place):
         it.write("0123456789")
     with open(os.path.join(root, "long.bin"), "w", encoding="ascii") as it:
         it.truncate(1 << 28)
+    os.mkdir(os.path.join(root, "many"))
+    for number in range(10_000):
+        with open(os.path.join(root, "many", f"file{number}.txt"), "w", encoding="ascii"):
+            pass
     ours, theirs = [given.program, root, "serve"], [floor, root]
     for name, request, asked in rows_for(ours):
         for window, count in COUNTS.items():
@@ -98,6 +106,9 @@ def measure(given, place):
             print_row(f"{name} {window}", least, count, told)
     long = request_for("GET", "/long.bin")
     print_row("256 MiB", least_of([(ours, long), (theirs, long)], 1, 1, given), 1, told)
+    print_row("by 64 KiB", least_of([(ours + ["--bufsize", "65536"], long), (theirs, long)], 1, 1, given), 1, told)
+    page = request_for("GET", "/many/")
+    print_row("page", least_of([(ours + ["--autoindex"], page), (theirs, page)], PAGES, 1, given), PAGES, told)
     print(", ".join(told))
 
 
