@@ -15,7 +15,7 @@ use Rattle.dav_fetch.specs.declared.copied.Kept.{Kept}
 use Rattle.dav_fetch.specs.declared.error.MirrorError.{MirrorError}
 use Rattle.dav_fetch.specs.Asking.{Awaits, awaits, whole, rest, same}
 use Rattle.dav_fetch.specs.Copy.{IsCopy, IsKept, IsOf, IsTagValue, path_cmp}
-use Rattle.dav_fetch.specs.Fetching.{AtFile, Fetched, FilesEnd, Goes, Takes, Files, IsFileVisit, kept_at, kept_of, taken}
+use Rattle.dav_fetch.specs.Fetching.{AtFile, Fetched, FilesEnd, FilesKept, Goes, Requests, Stretch, Takes, Files, IsFileVisit, kept_at, kept_of, taken}
 use Rattle.dav_fetch.specs.Judging.{Use, gives, grown, keeps, refuses, spoils, if_strong, is_rest_of, new_file, number_said, replaced, rest_use, strong_said, use_of}
 use Rattle.dav_fetch.specs.Keeping.{AreAscending, AreInOrder}
 use Rattle.dav_fetch.specs.Peer.{PeerState}
@@ -162,34 +162,32 @@ files_along old (path ∷ paths) (v ∷ vs) got left more each (worth, next, is,
   files_along old paths vs next left more each took along,
 )
 
-at_file_along : (old got : List Kept) (left : List Names) (made most : ℕ) (e : MirrorError) (s : PeerState) (last : List Visit) (t : PeerState) (new : List Kept) → AllByRecursion IsKept old
-    → AtFile left old got made most e s last t new → (more : List Kept) × (new ≡ got ++ more) × Along left more
-at_file_along old got [] made most e s last t new each end = absurd end
-at_file_along old got (path ∷ paths) made most e s last t new each (inl not) = (kept_of (path ∷ paths) old, not.kept, kept_along (path ∷ paths) old each)
-at_file_along old got (path ∷ paths) made most e s last t new each (inr asked) = (
-  option_to_list (taken (kept_at path old) asked.worth asked.visit.came) ++ kept_of paths old,
+at_file_along : (files : FilesKept) (left : List Names) (count : Requests) (e : MirrorError) (last : Stretch) → AllByRecursion IsKept files.old
+    → AtFile left files count e last → (more : List Kept) × (files.new ≡ files.got ++ more) × Along left more
+at_file_along files [] count e last each end = absurd end
+at_file_along files (path ∷ paths) count e last each (inl not) = (kept_of (path ∷ paths) files.old, not.kept, kept_along (path ∷ paths) files.old each)
+at_file_along files (path ∷ paths) count e last each (inr asked) = (
+  option_to_list (taken (kept_at path files.old) asked.worth asked.visit.came) ++ kept_of paths files.old,
   asked.kept,
-  (taken (kept_at path old) asked.worth asked.visit.came, kept_of paths old, refl, taken_well path old asked.visit asked.worth each asked.is, kept_along paths old each),
+  (taken (kept_at path files.old) asked.worth asked.visit.came, kept_of paths files.old, refl, taken_well path files.old asked.visit asked.worth each asked.is, kept_along paths files.old each),
 )
 
-ends_along : (old got : List Kept) (left : List Names) (made most : ℕ) (result : Result Unit MirrorError) (s : PeerState) (last : List Visit) (t : PeerState) (new : List Kept) → AllByRecursion IsKept old
-    → FilesEnd left old got made most result s last t new → (more : List Kept) × (new ≡ got ++ more) × Along left more
-ends_along old got left made most (Ok x) s last t new each (none, alone, stays, is) = ([], is ∙ sym (append-nil got), subst (λ p. Along p []) (sym none) refl)
-ends_along old got left made most (Err e) s last t new each end = at_file_along old got left made most e s last t new each end
+ends_along : (files : FilesKept) (left : List Names) (count : Requests) (result : Result Unit MirrorError) (last : Stretch) → AllByRecursion IsKept files.old
+    → FilesEnd left files count result last → (more : List Kept) × (files.new ≡ files.got ++ more) × Along left more
+ends_along files left count (Ok x) last each (none, alone, stays, is) = ([], is ∙ sym (append-nil files.got), subst (λ p. Along p []) (sym none) refl)
+ends_along files left count (Err e) last each end = at_file_along files left count e last each end
 
-takes_copy : (way : Way) (made most : ℕ) (old : Copied) (s : PeerState) (visits : List Visit) (result : Result Unit MirrorError) (t : PeerState) (new : Copied) → IsCopy old
-    → Takes way made most old s visits result t new → IsCopy new
-takes_copy way made most old s visits result t new copy takes =
-    let (more, is, along) = ends_along old.files takes.got takes.left (made + length takes.visits) most result takes.mid takes.last t new.files copy.each takes.ends in
+takes_copy : (way : Way) (count : Requests) (old : Copied) (asks : Stretch) (result : Result Unit MirrorError) (new : Copied) → IsCopy old → Takes way count old asks result new → IsCopy new
+takes_copy way count old asks result new copy takes =
+    let (more, is, along) = ends_along (record { old = old.files; got = takes.got; new = new.files }) takes.left _ result _ copy.each takes.ends in
     let all : Along takes.paths new.files = subst (Along takes.paths) (sym is) (files_along old.files takes.paths takes.visits takes.got takes.left more copy.each takes.took along) in
     record { dirs = takes.dirs.order; files = along_order takes.paths new.files takes.ordered.order all; each = along_kept takes.paths new.files all }
 
-goes_copy : (due : List Names) (way : Way) (made most : ℕ) (old : Copied) (s : PeerState) (visits : List Visit) (result : Result Unit MirrorError) (t : PeerState) (new : Copied) → IsCopy old
-    → Goes due way made most old s visits result t new → IsCopy new
-goes_copy [] way made most old s visits result t new copy (inl takes) = takes_copy way made most old s visits result t new copy takes
-goes_copy [] way made most old s visits result t new copy (inr un) = subst IsCopy (sym un.same) copy
-goes_copy (dir ∷ due) way made most old s visits (Ok x) t new copy goes = absurd goes
-goes_copy (dir ∷ due) way made most old s visits (Err e) t new copy (at, stays) = subst IsCopy (sym stays) copy
+goes_copy : (due : List Names) (way : Way) (count : Requests) (old : Copied) (asks : Stretch) (result : Result Unit MirrorError) (new : Copied) → IsCopy old → Goes due way count old asks result new → IsCopy new
+goes_copy [] way count old asks result new copy (inl takes) = takes_copy way count old asks result new copy takes
+goes_copy [] way count old asks result new copy (inr un) = subst IsCopy (sym un.same) copy
+goes_copy (dir ∷ due) way count old asks (Ok x) new copy goes = absurd goes
+goes_copy (dir ∷ due) way count old asks (Err e) new copy (at, stays) = subst IsCopy (sym stays) copy
 
 pub fetched_copy : (s t : PeerState) (old new : Copied) (most : ℕ) (result : Result Unit MirrorError) → Fetched s old most result t new → IsCopy old → IsCopy new
-fetched_copy s t old new most result f copy = goes_copy f.way.due f.way (length f.pages) most old f.mid f.rest result t new copy f.goes
+fetched_copy s t old new most result f copy = goes_copy f.way.due f.way _ old _ result new copy f.goes

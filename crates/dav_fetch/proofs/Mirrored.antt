@@ -13,7 +13,7 @@ use Rattle.dav_fetch.specs.declared.copied.Kept.{Kept}
 use Rattle.dav_fetch.specs.declared.error.MirrorError.{MirrorError}
 use Rattle.dav_fetch.specs.declared.error.MirrorError.TheVariants.{NoMemory}
 use Rattle.dav_fetch.specs.Copy.{IsCopy, IsOf}
-use Rattle.dav_fetch.specs.Fetching.{Fetched, Files, Goes, Takes, Visits, kept_at, visits_of}
+use Rattle.dav_fetch.specs.Fetching.{Fetched, Files, Goes, Requests, Stretch, Takes, Visits, kept_at, visits_of}
 use Rattle.dav_fetch.specs.Mirroring.{IsGood, IsMirror, IsOverOne, IsShownDir, IsWholeFile, TellsOne, is_shown, whole_file}
 use Rattle.dav_fetch.specs.Peer.{PeerState}
 use Rattle.dav_fetch.specs.Walk.{Visit, Way}
@@ -93,12 +93,12 @@ file_named w (name ∷ path) row tree there kind = omega arith
 
 -- ---- the whole of it
 
-module _ (w : World) (s t : PeerState) (old new : Copied) (all : List Visit) (over : IsOverOne w s old all t) (read : List Names) (way : Way) (walk : Walked w read way) (none : way.due ≡ [])
-    (made most : ℕ) (mid : PeerState) (rest : List Visit) (takes : Takes way made most old mid rest (Ok tt) t new) (told : TellsOne w rest) where
+module _ (w : World) (s : PeerState) (old new : Copied) (all : List Visit) (asks : Stretch) (over : IsOverOne w s old all asks.after) (read : List Names) (way : Way) (walk : Walked w read way) (none : way.due ≡ [])
+    (count : Requests) (takes : Takes way count old asks (Ok tt) new) (told : TellsOne w asks.visits) where
   files_are : AreAll w takes.paths new.files
   files_are =
       subst (AreAll w takes.paths) (sym takes.ends.3)
-      (files_all w s takes.mid t old all takes.paths takes.visits takes.got takes.left over (λ path o. (walk.files path (takes.ordered.from path o)).at.shown) mid
+      (files_all w s takes.mid asks.after old all takes.paths takes.visits takes.got takes.left over (λ path o. (walk.files path (takes.ordered.from path o)).at.shown) asks.before
       (told_parts w takes.visits takes.last (subst (TellsOne w) takes.parts told)).0 takes.chain takes.took takes.ends.0)
 
   dir_is : (path : Names) → IsOf path new.dirs → IsShownDir w path
@@ -136,25 +136,26 @@ module _ (w : World) (s t : PeerState) (old new : Copied) (all : List Visit) (ov
 ok_lacks : ◌≡◌ {A = Result Unit MirrorError} (Ok tt) (Err NoMemory) → ⊥
 ok_lacks e = cc
 
-goes_mirror : (w : World) (s t : PeerState) (old new : Copied) (all : List Visit) (read : List Names) (way : Way) (due : List Names) (made most : ℕ) (mid : PeerState) (rest : List Visit) → IsOverOne w s old all t
-    → Walked w read way → way.due ≡ due → TellsOne w rest → IsCopy new → Goes due way made most old mid rest (Ok tt) t new → IsMirror w new
-goes_mirror w s t old new all read way [] made most mid rest over walk none told copy (inr un) = absurd (ok_lacks un.lacks)
-goes_mirror w s t old new all read way [] made most mid rest over walk none told copy (inl takes) = is_mirror w s t old new all over read way walk none made most mid rest takes told copy
-goes_mirror w s t old new all read way (dir ∷ due) made most mid rest over walk is told copy goes = absurd goes
+goes_mirror : (w : World) (s : PeerState) (old new : Copied) (all : List Visit) (read : List Names) (way : Way) (due : List Names) (count : Requests) (asks : Stretch) → IsOverOne w s old all asks.after
+    → Walked w read way → way.due ≡ due → TellsOne w asks.visits → IsCopy new → Goes due way count old asks (Ok tt) new → IsMirror w new
+goes_mirror w s old new all read way [] count asks over walk none told copy (inr un) = absurd (ok_lacks un.lacks)
+goes_mirror w s old new all read way [] count asks over walk none told copy (inl takes) = is_mirror w s old new all asks over read way walk none count takes told copy
+goes_mirror w s old new all read way (dir ∷ due) count asks over walk is told copy goes = absurd goes
 
 -- the count behind the pages
-pub goes_count : (due : List Names) (way : Way) (made most : ℕ) (old new : Copied) (mid t : PeerState) (rest : List Visit) → Goes due way made most old mid rest (Ok tt) t new → mid.faults ≤ t.faults
-goes_count [] way made most old new mid t rest (inr un) = absurd (ok_lacks un.lacks)
-goes_count [] way made most old new mid t rest (inl takes) =
-    let chain = visits_count mid takes.mid takes.visits takes.chain in
-    let ends : t.faults ≡ takes.mid.faults = ap (λ (x : PeerState). x.faults) takes.ends.2 in
+pub goes_count : (due : List Names) (way : Way) (count : Requests) (old new : Copied) (asks : Stretch) → Goes due way count old asks (Ok tt) new → asks.before.faults ≤ asks.after.faults
+goes_count [] way count old new asks (inr un) = absurd (ok_lacks un.lacks)
+goes_count [] way count old new asks (inl takes) =
+    let chain = visits_count asks.before takes.mid takes.visits takes.chain in
+    let ends : asks.after.faults ≡ takes.mid.faults = ap (λ (x : PeerState). x.faults) takes.ends.2 in
     omega (arith, chain, ends)
-goes_count (dir ∷ due) way made most old new mid t rest goes = absurd goes
+goes_count (dir ∷ due) way count old new asks goes = absurd goes
 
 pub mirrored : (s t : PeerState) (old new : Copied) (most : ℕ) (f : Fetched s old most (Ok tt) t new) (w : World) → IsOverOne w s old (visits_of f) t → IsMirror w new
 mirrored s t old new most f w over =
     let (pages, rest) = told_parts w f.pages f.rest over.tells in
     let first = visits_count s f.mid f.pages (whole_visits s f.mid f.pages f.chain) in
-    let second = goes_count f.way.due f.way (length f.pages) most old new f.mid t f.rest f.goes in
+    let asks : Stretch = record { before = f.mid; visits = f.rest; after = t } in
+    let second = goes_count f.way.due f.way _ old new asks f.goes in
     let on = pages_walked w s f.mid f.pages f.way over.world pages (quiet_first s.faults f.mid.faults t.faults first second over.nothing) f.chain f.read in
-    goes_mirror w s t old new (visits_of f) on.read f.way f.way.due (length f.pages) most f.mid f.rest over on.walk refl rest (fetched_copy s t old new most (Ok tt) f over.copy) f.goes
+    goes_mirror w s old new (visits_of f) on.read f.way f.way.due _ asks over on.walk refl rest (fetched_copy s t old new most (Ok tt) f over.copy) f.goes

@@ -16,7 +16,7 @@ use Rattle.dav_fetch.specs.declared.error.MirrorError.{MirrorError}
 use Rattle.dav_fetch.specs.declared.error.MirrorError.TheVariants.{Peer as PeerFailed, Refused, NotAPage, BadReply, Short, TooLong, Budget, NoMemory}
 use Rattle.dav_fetch.specs.Asking.{dir_path, file_path}
 use Rattle.dav_fetch.specs.Copy.{IsOf}
-use Rattle.dav_fetch.specs.Fetching.{AtFile, AtPage, Fetched, FileEnds, Goes, IsFileVisit, NotAsked, PageEnds, Visited, kept_at, link_is_short, visits_of}
+use Rattle.dav_fetch.specs.Fetching.{AtFile, AtPage, Fetched, FileEnds, FilesKept, Goes, IsFileVisit, NotAsked, PageEnds, Requests, Stretch, Visited, kept_at, link_is_short, visits_of}
 use Rattle.dav_fetch.specs.Judging.{Use, gives, keeps, refuses, spoils}
 use Rattle.dav_fetch.specs.Mirroring.{IsLinkless, IsOverOne, IsWithinLimits, Mirrors, TellsOne, visible_rows}
 use Rattle.dav_fetch.specs.Peer.{PeerState, RepliesOf}
@@ -125,28 +125,28 @@ file_ends_counts path refuses visit e s t room other h = refuses_ends_counts pat
 file_ends_counts path spoils visit e s t room other h = spoils_ends_counts path visit e s t other h
 file_ends_counts path keeps visit e s t room other h = absurd (keeps_ends_never path visit e s t other h)
 
-at_page_counts : (dir : Names) (made most : ℕ) (e : MirrorError) (s : PeerState) (last : List Visit) (t : PeerState) → t.faults < greatest → IsOther e → AtPage dir made most e s last t → s.faults ≤ t.faults
-at_page_counts dir made most e s last t room other (inl not) = not_asked_counts (dir_path dir) made most e s t room other not.1
-at_page_counts dir made most e s last t room other (inr (visit, m, one, visited, is, ends)) =
-    let first = visit_counts s m visit visited in let second = page_ends_counts dir visit e m t room other ends in omega (arith, first, second)
+at_page_counts : (dir : Names) (count : Requests) (e : MirrorError) (last : Stretch) → last.after.faults < greatest → IsOther e → AtPage dir count e last → last.before.faults ≤ last.after.faults
+at_page_counts dir count e last room other (inl not) = not_asked_counts (dir_path dir) count.made count.most e last.before last.after room other not.1
+at_page_counts dir count e last room other (inr (visit, m, one, visited, is, ends)) =
+    let first = visit_counts last.before m visit visited in let second = page_ends_counts dir visit e m last.after room other ends in omega (arith, first, second)
 
-at_file_counts : (left : List Names) (old got : List Kept) (made most : ℕ) (e : MirrorError) (s : PeerState) (last : List Visit) (t : PeerState) (new : List Kept) → t.faults < greatest → IsOther e
-    → AtFile left old got made most e s last t new → s.faults ≤ t.faults
-at_file_counts [] old got made most e s last t new room other h = absurd h
-at_file_counts (path ∷ more) old got made most e s last t new room other (inl not) = not_asked_counts (file_path path) made most e s t room other not.not
-at_file_counts (path ∷ more) old got made most e s last t new room other (inr asked) =
-    let first = visit_counts s asked.at asked.visit asked.visited in
-    let second = file_ends_counts path asked.worth asked.visit e asked.at t room other asked.ends in
+at_file_counts : (left : List Names) (files : FilesKept) (count : Requests) (e : MirrorError) (last : Stretch) → last.after.faults < greatest → IsOther e
+    → AtFile left files count e last → last.before.faults ≤ last.after.faults
+at_file_counts [] files count e last room other h = absurd h
+at_file_counts (path ∷ more) files count e last room other (inl not) = not_asked_counts (file_path path) count.made count.most e last.before last.after room other not.not
+at_file_counts (path ∷ more) files count e last room other (inr asked) =
+    let first = visit_counts last.before asked.at asked.visit asked.visited in
+    let second = file_ends_counts path asked.worth asked.visit e asked.at last.after room other asked.ends in
     omega (arith, first, second)
 
-pub goes_counts : (due : List Names) (way : Way) (made most : ℕ) (old new : Copied) (mid t : PeerState) (rest : List Visit) (e : MirrorError) → t.faults < greatest → IsOther e
-    → Goes due way made most old mid rest (Err e) t new → mid.faults ≤ t.faults
-goes_counts [] way made most old new mid t rest e room other (inr un) = absurd (other_lacks e other un.lacks)
-goes_counts [] way made most old new mid t rest e room other (inl takes) =
-    let chain = visits_count mid takes.mid takes.visits takes.chain in
-    let ends = at_file_counts takes.left old.files takes.got (made + length takes.visits) most e takes.mid takes.last t new.files room other takes.ends in
+pub goes_counts : (due : List Names) (way : Way) (count : Requests) (old new : Copied) (asks : Stretch) (e : MirrorError) → asks.after.faults < greatest → IsOther e
+    → Goes due way count old asks (Err e) new → asks.before.faults ≤ asks.after.faults
+goes_counts [] way count old new asks e room other (inr un) = absurd (other_lacks e other un.lacks)
+goes_counts [] way count old new asks e room other (inl takes) =
+    let chain = visits_count asks.before takes.mid takes.visits takes.chain in
+    let ends : takes.mid.faults ≤ asks.after.faults = at_file_counts takes.left _ _ e (record { before = takes.mid; visits = takes.last; after = asks.after }) room other takes.ends in
     omega (arith, chain, ends)
-goes_counts (dir ∷ due) way made most old new mid t rest e room other goes = at_page_counts dir made most e mid rest t room other goes.0
+goes_counts (dir ∷ due) way count old new asks e room other goes = at_page_counts dir count e asks room other goes.0
 
 -- ---- none of the errors comes
 
@@ -201,12 +201,12 @@ module _ (w : World) (s t : PeerState) (old new : Copied) (all : List Visit) (ov
       by (BadReply p) other h = h
       by (Short p got announced) other h = h
 
-  at_page_never : (dir : Names) (made most : ℕ) (e : MirrorError) (a : PeerState) (last : List Visit) → IsOther e → s.faults ≤ a.faults → IsDirAt w dir → made < most → TellsOne w last
-      → AtPage dir made most e a last t → ⊥
-  at_page_never dir made most e a last other before at few told (inl not) =
-      not_asked_never (dir_path dir) made most e s.faults a t other before over.nothing few
+  at_page_never : (dir : Names) (count : Requests) (e : MirrorError) (a : PeerState) (last : List Visit) → IsOther e → s.faults ≤ a.faults → IsDirAt w dir → count.made < count.most → TellsOne w last
+      → AtPage dir count e (record { before = a; visits = last; after = t }) → ⊥
+  at_page_never dir count e a last other before at few told (inl not) =
+      not_asked_never (dir_path dir) count.made count.most e s.faults a t other before over.nothing few
       (subst (λ d. link_is_short (record { prefix = []; names = dir; slash = d })) (ap is_dir at.kind) (limits.links dir at.row at.at)) not.1
-  at_page_never dir made most e a last other before at few told (inr (visit, m, one, visited, is, ends)) =
+  at_page_never dir count e a last other before at few told (inr (visit, m, one, visited, is, ends)) =
       page_ends_never dir a m visit e other before at (subst (TellsOne w) one told).0 visited is.path is.asked ends
 
   -- a file that is shown
@@ -261,30 +261,30 @@ module _ (w : World) (s t : PeerState) (old new : Copied) (all : List Visit) (ov
       by refuses e other is came h here = is
       by spoils e other is came h here = is
 
-  at_file_never : (left : List Names) (got : List Kept) (made most : ℕ) (e : MirrorError) (a : PeerState) (last : List Visit) → IsOther e → s.faults ≤ a.faults
-      → ((path : Names) → IsOf path left → IsOtherAt w path) → ((path : Names) (more : List Names) → left ≡ path ∷ more → made < most) → TellsOne w last
-      → AtFile left old.files got made most e a last t new.files → ⊥
-  at_file_never [] got made most e a last other before at few told h = h
-  at_file_never (path ∷ more) got made most e a last other before at few told (inl not) =
+  at_file_never : (left : List Names) (got : List Kept) (count : Requests) (e : MirrorError) (a : PeerState) (last : List Visit) → IsOther e → s.faults ≤ a.faults
+      → ((path : Names) → IsOf path left → IsOtherAt w path) → ((path : Names) (more : List Names) → left ≡ path ∷ more → count.made < count.most) → TellsOne w last
+      → AtFile left (record { old = old.files; got = got; new = new.files }) count e (record { before = a; visits = last; after = t }) → ⊥
+  at_file_never [] got count e a last other before at few told h = h
+  at_file_never (path ∷ more) got count e a last other before at few told (inl not) =
       let here = at path (inl refl) in
-      not_asked_never (file_path path) made most e s.faults a t other before over.nothing (few path more refl)
+      not_asked_never (file_path path) count.made count.most e s.faults a t other before over.nothing (few path more refl)
       (subst (λ d. link_is_short (record { prefix = []; names = path; slash = d })) here.kind (limits.links path here.row here.at)) not.not
-  at_file_never (path ∷ more) got made most e a last other before at few told (inr asked) =
+  at_file_never (path ∷ more) got count e a last other before at few told (inr asked) =
       file_ends_never path asked.worth a asked.at asked.visit e other before (at path (inl refl)) (subst (TellsOne w) asked.one told).0 asked.visited asked.is asked.ends
 
-  goes_never : (due : List Names) (read : List Names) (way : Way) (made most : ℕ) (mid : PeerState) (rest : List Visit) (e : MirrorError) → IsOther e → s.faults ≤ mid.faults → Walked w read way → way.due ≡ due
-      → length read ≡ made → length (visible_rows w) < most → TellsOne w rest → Goes due way made most old mid rest (Err e) t new → ⊥
-  goes_never [] read way made most mid rest e other before walk is many few told (inr un) = other_lacks e other un.lacks
-  goes_never [] read way made most mid rest e other before walk is many few told (inl takes) =
-      let chain = visits_count mid takes.mid takes.visits takes.chain in
-      at_file_never takes.left takes.got (made + length takes.visits) most e takes.mid takes.last other (omega (arith, before, chain))
+  goes_never : (due : List Names) (read : List Names) (way : Way) (count : Requests) (mid : PeerState) (rest : List Visit) (e : MirrorError) → IsOther e → s.faults ≤ mid.faults → Walked w read way → way.due ≡ due
+      → length read ≡ count.made → length (visible_rows w) < count.most → TellsOne w rest → Goes due way count old (record { before = mid; visits = rest; after = t }) (Err e) new → ⊥
+  goes_never [] read way count mid rest e other before walk is many few told (inr un) = other_lacks e other un.lacks
+  goes_never [] read way count mid rest e other before walk is many few told (inl takes) =
+      let chain : mid.faults ≤ takes.mid.faults = visits_count mid takes.mid takes.visits takes.chain in
+      at_file_never takes.left takes.got (record { made = count.made + length takes.visits; most = count.most }) e takes.mid takes.last other (omega (arith, before, chain))
       (λ path o. walk.files path (takes.ordered.from path (files_left old.files takes.paths takes.visits takes.got takes.left path takes.took o)))
-      (λ path more left. file_allowed w read way takes.paths old.files takes.visits takes.got takes.left path more made most walk is many takes.ordered.order takes.ordered.from takes.took left few)
+      (λ path more left. file_allowed w read way takes.paths old.files takes.visits takes.got takes.left path more count.made count.most walk is many takes.ordered.order takes.ordered.from takes.took left few)
       (told_parts w takes.visits takes.last (subst (TellsOne w) takes.parts told)).1 takes.ends
-  goes_never (dir ∷ due) read way made most mid rest e other before walk is many few told goes =
-      at_page_never dir made most e mid rest other before
+  goes_never (dir ∷ due) read way count mid rest e other before walk is many few told goes =
+      at_page_never dir count e mid rest other before
       (walk.dirs dir (subst (IsOf dir) (sym (walk.parts ∙ ap (λ z. read ++ z) is)) (of_append dir read (dir ∷ due) (inr (inl refl)))))
-      (page_allowed w read way dir due made most walk is many few) told goes.0
+      (page_allowed w read way dir due count.made count.most walk is many few) told goes.0
 
 -- The answer is Ok, or memory is refused.
 pub reached : (s t : PeerState) (old new : Copied) (most : ℕ) (result : Result Unit MirrorError) (f : Fetched s old most result t new) (w : World) → IsOverOne w s old (visits_of f) t → IsLinkless w → IsWithinLimits w
@@ -293,6 +293,6 @@ reached s t old new most (Ok x) f w over linkless limits few = mirrored s t old 
 reached s t old new most (Err e) f w over linkless limits few = none_other w e new (λ other.
     (let (pages, rest) = told_parts w f.pages f.rest over.tells in
     let first = visits_count s f.mid f.pages (whole_visits s f.mid f.pages f.chain) in
-    let second = goes_counts f.way.due f.way (length f.pages) most old new f.mid t f.rest e over.nothing.room other f.goes in
+    let second = goes_counts f.way.due f.way _ old new (record { before = f.mid; visits = f.rest; after = t }) e over.nothing.room other f.goes in
     let on = pages_walked w s f.mid f.pages f.way over.world pages (quiet_first s.faults f.mid.faults t.faults first second over.nothing) f.chain f.read in
-    goes_never w s t old new (visits_of f) over linkless limits f.way.due on.read f.way (length f.pages) most f.mid f.rest e other first on.walk refl on.many few rest f.goes))
+    goes_never w s t old new (visits_of f) over linkless limits f.way.due on.read f.way (record { made = length f.pages; most = most }) f.mid f.rest e other first on.walk refl on.many few rest f.goes))

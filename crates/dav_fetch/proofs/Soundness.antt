@@ -13,7 +13,7 @@ use Rattle.dav_fetch.specs.declared.copied.Kept.{Kept}
 use Rattle.dav_fetch.specs.declared.error.MirrorError.{MirrorError}
 use Rattle.dav_fetch.specs.Asking.{asked_for, awaits, file_path}
 use Rattle.dav_fetch.specs.Copy.{IsOf, IsOfWorld}
-use Rattle.dav_fetch.specs.Fetching.{AtFile, Fetched, FilesEnd, Goes, Takes, visits_of, Files, IsFileVisit, Visited, Visits, kept_at, kept_of, taken}
+use Rattle.dav_fetch.specs.Fetching.{AtFile, Fetched, FilesEnd, FilesKept, Goes, Requests, Stretch, Takes, visits_of, Files, IsFileVisit, Visited, Visits, kept_at, kept_of, taken}
 use Rattle.dav_fetch.specs.Judging.{Use, gives, grown, keeps, refuses, spoils}
 use Rattle.dav_fetch.specs.Mirroring.{AllTold, AreKept, IsGood, IsMet, IsSound, MetIn}
 use Rattle.dav_fetch.specs.Peer.{Came, PeerState, RepliesIn, RepliesOf, Seen}
@@ -124,56 +124,65 @@ met_right w [] b m = m
 met_right w (v ∷ a) b m = inr (met_right w a b m)
 
 -- A file was due where it ended.
-at_file : (old got : List Kept) (all last : List Visit) (left : List Names) (new : List Kept) (made most : ℕ) (e : MirrorError) (s t : PeerState) (k : Kept) → AreKept old → AllTold last
-    → ((w : World) → MetIn w last → MetIn w all) → ((w : World) → MetIn w all → IsMet old w) → (IsOf k got → FromSome old all k) → AtFile left old got made most e s last t new
-    → IsOf k new → FromSome old all k
-at_file old got all last [] new made most e s t k kept told inside met sound end is = absurd end
-at_file old got all last (path ∷ paths) new made most e s t k kept told inside met sound (inl not) is =
-    elim (in_either k got (kept_of (path ∷ paths) old) (subst (IsOf k) not.kept is)) [
+at_file : (files : FilesKept) (all : List Visit) (left : List Names) (count : Requests) (e : MirrorError) (last : Stretch) (k : Kept) → AreKept files.old → AllTold last.visits
+    → ((w : World) → MetIn w last.visits → MetIn w all) → ((w : World) → MetIn w all → IsMet files.old w) → (IsOf k files.got → FromSome files.old all k) → AtFile left files count e last
+    → IsOf k files.new → FromSome files.old all k
+at_file files all [] count e last k kept told inside met sound end is = absurd end
+at_file files all (path ∷ paths) count e last k kept told inside met sound (inl not) is =
+    elim (in_either k files.got (kept_of (path ∷ paths) files.old) (subst (IsOf k) not.kept is)) [
       | inl first ↦ sound first
-      | inr more ↦ inl (of_rest (path ∷ paths) old k more)
+      | inr more ↦ inl (of_rest (path ∷ paths) files.old k more)
     ]
-at_file old got all last (path ∷ paths) new made most e s t k kept told inside met sound (inr asked) is =
-    elim (in_either k got (option_to_list (taken (kept_at path old) asked.worth asked.visit.came) ++ kept_of paths old) (subst (IsOf k) asked.kept is)) [
+at_file files all (path ∷ paths) count e last k kept told inside met sound (inr asked) is =
+    elim (in_either k files.got (option_to_list (taken (kept_at path files.old) asked.worth asked.visit.came) ++ kept_of paths files.old) (subst (IsOf k) asked.kept is)) [
       | inl first ↦ sound first
-      | inr more ↦ elim (in_either k (option_to_list (taken (kept_at path old) asked.worth asked.visit.came)) (kept_of paths old) more) [
+      | inr more ↦ elim (in_either k (option_to_list (taken (kept_at path files.old) asked.worth asked.visit.came)) (kept_of paths files.old) more) [
         | inl here ↦ let (w, told_w) = some_of asked.visit.world (subst AllTold asked.one told).0 in
             let of = inside w (subst (MetIn w) (sym asked.one) (inl told_w)) in
-            visit_sound w path old all s asked.at asked.visit asked.worth k kept (met w of) of told_w asked.visited asked.is here
-        | inr later ↦ inl (of_rest paths old k later)
+            visit_sound w path files.old all last.before asked.at asked.visit asked.worth k kept (met w of) of told_w asked.visited asked.is here
+        | inr later ↦ inl (of_rest paths files.old k later)
       ]
     ]
 
-takes_sound : (way : Way) (made most : ℕ) (old : Copied) (s : PeerState) (pages rest : List Visit) (result : Result Unit MirrorError) (t : PeerState) (new : Copied)
-    → AreKept old.files → AllTold rest → ((w : World) → MetIn w (pages ++ rest) → IsMet old.files w) → Takes way made most old s rest result t new → IsSound old (pages ++ rest) new
-takes_sound way made most old s pages rest result t new kept told met takes k is = by result takes.ends
+takes_sound : (way : Way) (count : Requests) (old : Copied) (pages : List Visit) (asks : Stretch) (result : Result Unit MirrorError) (new : Copied)
+    → AreKept old.files → AllTold asks.visits → ((w : World) → MetIn w (pages ++ asks.visits) → IsMet old.files w) → Takes way count old asks result new → IsSound old (pages ++ asks.visits) new
+takes_sound way count old pages asks result new kept told met takes k is = by result takes.ends
   where
+    files : FilesKept
+    files = record { old = old.files; got = takes.got; new = new.files }
+
+    now : Requests
+    now = record { made = count.made + length takes.visits; most = count.most }
+
+    last : Stretch
+    last = record { before = takes.mid; visits = takes.last; after = asks.after }
+
     both : AllTold takes.visits × AllTold takes.last
     both = told_both takes.visits takes.last (subst AllTold takes.parts told)
 
-    inside : (w : World) → MetIn w takes.visits → MetIn w (pages ++ rest)
-    inside w m = met_right w pages rest (subst (MetIn w) (sym takes.parts) (met_left w takes.visits takes.last m))
+    inside : (w : World) → MetIn w takes.visits → MetIn w (pages ++ asks.visits)
+    inside w m = met_right w pages asks.visits (subst (MetIn w) (sym takes.parts) (met_left w takes.visits takes.last m))
 
-    last_inside : (w : World) → MetIn w takes.last → MetIn w (pages ++ rest)
-    last_inside w m = met_right w pages rest (subst (MetIn w) (sym takes.parts) (met_right w takes.visits takes.last m))
+    last_inside : (w : World) → MetIn w takes.last → MetIn w (pages ++ asks.visits)
+    last_inside w m = met_right w pages asks.visits (subst (MetIn w) (sym takes.parts) (met_right w takes.visits takes.last m))
 
-    sound : IsOf k takes.got → FromSome old.files (pages ++ rest) k
-    sound of = files_sound old.files takes.paths (pages ++ rest) takes.visits takes.got takes.left s takes.mid k kept
-        (all_met old.files (pages ++ rest) takes.visits both.0 inside met) takes.chain takes.took of
+    sound : IsOf k takes.got → FromSome old.files (pages ++ asks.visits) k
+    sound of = files_sound old.files takes.paths (pages ++ asks.visits) takes.visits takes.got takes.left asks.before takes.mid k kept
+        (all_met old.files (pages ++ asks.visits) takes.visits both.0 inside met) takes.chain takes.took of
 
-    by : (r : Result Unit MirrorError) → FilesEnd takes.left old.files takes.got (made + length takes.visits) most r takes.mid takes.last t new.files → FromSome old.files (pages ++ rest) k
+    by : (r : Result Unit MirrorError) → FilesEnd takes.left files now r last → FromSome old.files (pages ++ asks.visits) k
     by (Ok x) (left, none, state, same) = sound (subst (IsOf k) same is)
-    by (Err e) end = at_file old.files takes.got (pages ++ rest) takes.last takes.left new.files (made + length takes.visits) most e takes.mid t k kept both.1 last_inside met sound end is
+    by (Err e) end = at_file files (pages ++ asks.visits) takes.left now e last k kept both.1 last_inside met sound end is
 
-goes_sound : (due : List Names) (way : Way) (made most : ℕ) (old : Copied) (s : PeerState) (pages rest : List Visit) (result : Result Unit MirrorError) (t : PeerState) (new : Copied)
-    → AreKept old.files → AllTold rest → ((w : World) → MetIn w (pages ++ rest) → IsMet old.files w) → Goes due way made most old s rest result t new → IsSound old (pages ++ rest) new
-goes_sound [] way made most old s pages rest result t new kept told met (inl takes) = takes_sound way made most old s pages rest result t new kept told met takes
-goes_sound [] way made most old s pages rest result t new kept told met (inr un) = λ k is. inl (subst (λ (c : Copied). IsOf k c.files) un.same is)
-goes_sound (dir ∷ due) way made most old s pages rest (Ok x) t new kept told met goes = absurd goes
-goes_sound (dir ∷ due) way made most old s pages rest (Err e) t new kept told met (at, same) = λ k is. inl (subst (λ (c : Copied). IsOf k c.files) same is)
+goes_sound : (due : List Names) (way : Way) (count : Requests) (old : Copied) (pages : List Visit) (asks : Stretch) (result : Result Unit MirrorError) (new : Copied)
+    → AreKept old.files → AllTold asks.visits → ((w : World) → MetIn w (pages ++ asks.visits) → IsMet old.files w) → Goes due way count old asks result new → IsSound old (pages ++ asks.visits) new
+goes_sound [] way count old pages asks result new kept told met (inl takes) = takes_sound way count old pages asks result new kept told met takes
+goes_sound [] way count old pages asks result new kept told met (inr un) = λ k is. inl (subst (λ (c : Copied). IsOf k c.files) un.same is)
+goes_sound (dir ∷ due) way count old pages asks (Ok x) new kept told met goes = absurd goes
+goes_sound (dir ∷ due) way count old pages asks (Err e) new kept told met (at, same) = λ k is. inl (subst (λ (c : Copied). IsOf k c.files) same is)
 
 -- Whatever the answer: each file at exit is one of the entry, or a front of what its path had in a world of the call.
 pub fetched_sound : (s t : PeerState) (old new : Copied) (most : ℕ) (result : Result Unit MirrorError) (f : Fetched s old most result t new) → AreKept old.files
     → AllTold (visits_of f) → ((w : World) → MetIn w (visits_of f) → IsMet old.files w) → IsSound old (visits_of f) new
 fetched_sound s t old new most result f kept told met =
-    goes_sound f.way.due f.way (length f.pages) most old f.mid f.pages f.rest result t new kept (told_both f.pages f.rest told).1 met f.goes
+    goes_sound f.way.due f.way _ old f.pages (record { before = f.mid; visits = f.rest; after = t }) result new kept (told_both f.pages f.rest told).1 met f.goes

@@ -14,7 +14,7 @@ use Rattle.dav_fetch.specs.declared.error.MirrorError.{MirrorError}
 use Rattle.dav_fetch.specs.declared.error.MirrorError.TheVariants.{Peer as PeerFailed, Refused, NotAPage, BadReply, Short, TooLong, Budget, NoMemory}
 use Rattle.dav_fetch.specs.Asking.{dir_path, file_path}
 use Rattle.dav_fetch.specs.Copy.{IsOf}
-use Rattle.dav_fetch.specs.Fetching.{AtFile, AtPage, Fetched, FileEnds, Files, FilesEnd, Goes, NotAsked, Visited, Visits, WholeVisits, visits_of}
+use Rattle.dav_fetch.specs.Fetching.{AtFile, AtPage, Fetched, FileEnds, Files, FilesEnd, FilesKept, Goes, NotAsked, Requests, Stretch, Visited, Visits, WholeVisits, visits_of}
 use Rattle.dav_fetch.specs.Judging.{Use, gives, keeps, refuses, spoils}
 use Rattle.dav_fetch.specs.Mirroring.{IsLinkless, ShowsSame, TellsOne, TellsStill}
 use Rattle.dav_fetch.specs.Peer.{Came, MeetsNone, PeerState, RepliesIn, Seen, StaysStill}
@@ -105,37 +105,38 @@ chain_told w old (path ∷ paths) (v ∷ vs) got left s t linkless still at (wor
     let (others, there) = chain_told w old paths vs rest left m t linkless here (λ p o. at p (inr o)) took chain in
     ((told, others), there)
 
-at_page_told : (w : World) (dir : Names) (made most : ℕ) (e : MirrorError) (s : PeerState) (last : List Visit) (t : PeerState) → IsLinkless w → IsDirAt w dir → TellsStill w s
-    → AtPage dir made most e s last t → TellsOne w last
-at_page_told w dir made most e s last t linkless at still (inl not) = none_told w last not.0
-at_page_told w dir made most e s last t linkless at still (inr (visit, m, one, visited, is, ends)) =
-    one_told w s m visit last one still (subst (MeetsNone w.tree) (sym is.path) (dir_meets w dir linkless at)) visited
+at_page_told : (w : World) (dir : Names) (count : Requests) (e : MirrorError) (last : Stretch) → IsLinkless w → IsDirAt w dir → TellsStill w last.before → AtPage dir count e last → TellsOne w last.visits
+at_page_told w dir count e last linkless at still (inl not) = none_told w last.visits not.0
+at_page_told w dir count e last linkless at still (inr (visit, m, one, visited, is, ends)) =
+    one_told w last.before m visit last.visits one still (subst (MeetsNone w.tree) (sym is.path) (dir_meets w dir linkless at)) visited
 
-at_file_told : (w : World) (left : List Names) (old got : List Kept) (made most : ℕ) (e : MirrorError) (s : PeerState) (last : List Visit) (t : PeerState) (new : List Kept) → IsLinkless w
-    → ((path : Names) → IsOf path left → IsOtherAt w path) → TellsStill w s → AtFile left old got made most e s last t new → TellsOne w last
-at_file_told w [] old got made most e s last t new linkless at still h = absurd h
-at_file_told w (path ∷ more) old got made most e s last t new linkless at still (inl not) = none_told w last not.none
-at_file_told w (path ∷ more) old got made most e s last t new linkless at still (inr asked) =
-    one_told w s asked.at asked.visit last asked.one still (subst (MeetsNone w.tree) (sym asked.is.path_is) (file_meets w path linkless (at path (inl refl)))) asked.visited
+at_file_told : (w : World) (left : List Names) (files : FilesKept) (count : Requests) (e : MirrorError) (last : Stretch) → IsLinkless w
+    → ((path : Names) → IsOf path left → IsOtherAt w path) → TellsStill w last.before → AtFile left files count e last → TellsOne w last.visits
+at_file_told w [] files count e last linkless at still h = absurd h
+at_file_told w (path ∷ more) files count e last linkless at still (inl not) = none_told w last.visits not.none
+at_file_told w (path ∷ more) files count e last linkless at still (inr asked) =
+    one_told w last.before asked.at asked.visit last.visits asked.one still (subst (MeetsNone w.tree) (sym asked.is.path_is) (file_meets w path linkless (at path (inl refl)))) asked.visited
 
-files_told : (w : World) (left : List Names) (old got : List Kept) (made most : ℕ) (result : Result Unit MirrorError) (s : PeerState) (last : List Visit) (t : PeerState) (new : List Kept) → IsLinkless w
-    → ((path : Names) → IsOf path left → IsOtherAt w path) → TellsStill w s → FilesEnd left old got made most result s last t new → TellsOne w last
-files_told w left old got made most (Ok x) s last t new linkless at still h = none_told w last h.1
-files_told w left old got made most (Err e) s last t new linkless at still h = at_file_told w left old got made most e s last t new linkless at still h
+files_told : (w : World) (left : List Names) (files : FilesKept) (count : Requests) (result : Result Unit MirrorError) (last : Stretch) → IsLinkless w
+    → ((path : Names) → IsOf path left → IsOtherAt w path) → TellsStill w last.before → FilesEnd left files count result last → TellsOne w last.visits
+files_told w left files count (Ok x) last linkless at still h = none_told w last.visits h.1
+files_told w left files count (Err e) last linkless at still h = at_file_told w left files count e last linkless at still h
 
-goes_told : (w : World) (due : List Names) (read : List Names) (way : Way) (made most : ℕ) (old : Copied) (s : PeerState) (rest : List Visit) (result : Result Unit MirrorError) (t : PeerState) (new : Copied)
-    → IsLinkless w → Walked w read way → way.due ≡ due → TellsStill w s → Goes due way made most old s rest result t new → TellsOne w rest
-goes_told w [] read way made most old s rest result t new linkless walk is still (inr un) = none_told w rest un.none
-goes_told w [] read way made most old s rest result t new linkless walk is still (inl takes) =
+goes_told : (w : World) (due read : List Names) (way : Way) (count : Requests) (old : Copied) (asks : Stretch) (result : Result Unit MirrorError) (new : Copied)
+    → IsLinkless w → Walked w read way → way.due ≡ due → TellsStill w asks.before → Goes due way count old asks result new → TellsOne w asks.visits
+goes_told w [] read way count old asks result new linkless walk is still (inr un) = none_told w asks.visits un.none
+goes_told w [] read way count old asks result new linkless walk is still (inl takes) =
     let at : (path : Names) → IsOf path takes.paths → IsOtherAt w path = λ path o. walk.files path (takes.ordered.from path o) in
-    let (visits, there) = chain_told w old.files takes.paths takes.visits takes.got takes.left s takes.mid linkless still at takes.took takes.chain in
+    let (visits, there) = chain_told w old.files takes.paths takes.visits takes.got takes.left asks.before takes.mid linkless still at takes.took takes.chain in
     subst (TellsOne w) (sym takes.parts)
     (told_join w takes.visits takes.last visits
-    (files_told w takes.left old.files takes.got (made + length takes.visits) most result takes.mid takes.last t new.files linkless
+    (files_told w takes.left (record { old = old.files; got = takes.got; new = new.files }) (record { made = count.made + length takes.visits; most = count.most }) result
+    (record { before = takes.mid; visits = takes.last; after = asks.after }) linkless
     (λ path o. at path (files_left old.files takes.paths takes.visits takes.got takes.left path takes.took o)) there takes.ends))
-goes_told w (dir ∷ due) read way made most old s rest (Ok x) t new linkless walk is still h = absurd h
-goes_told w (dir ∷ due) read way made most old s rest (Err e) t new linkless walk is still h =
-    at_page_told w dir made most e s rest t linkless (walk.dirs dir (subst (IsOf dir) (sym (walk.parts ∙ ap (λ z. read ++ z) is)) (of_append dir read (dir ∷ due) (inr (inl refl))))) still h.0
+goes_told w (dir ∷ due) read way count old asks (Ok x) new linkless walk is still h = absurd h
+goes_told w (dir ∷ due) read way count old asks (Err e) new linkless walk is still h =
+    at_page_told w dir count e asks linkless
+    (walk.dirs dir (subst (IsOf dir) (sym (walk.parts ∙ ap (λ z. read ++ z) is)) (of_append dir read (dir ∷ due) (inr (inl refl))))) still h.0
 
 -- ---- counts, where memory was refused
 
@@ -149,28 +150,28 @@ lacking_use path keeps visit s t h = h
 lacking_use path refuses visit s t h = h
 lacking_use path spoils visit s t h = h
 
-lacking_page : (dir : Names) (made most : ℕ) (s t : PeerState) (last : List Visit) → AtPage dir made most NoMemory s last t → s.faults ≤ t.faults
-lacking_page dir made most s t last (inl not) = lacking_asked (dir_path dir) made most s t not.1
-lacking_page dir made most s t last (inr (visit, m, one, visited, is, ends)) =
-    let first = visit_counts s m visit visited in
-    let second : m.faults ≤ t.faults = ends in
+lacking_page : (dir : Names) (count : Requests) (last : Stretch) → AtPage dir count NoMemory last → last.before.faults ≤ last.after.faults
+lacking_page dir count last (inl not) = lacking_asked (dir_path dir) count.made count.most last.before last.after not.1
+lacking_page dir count last (inr (visit, m, one, visited, is, ends)) =
+    let first = visit_counts last.before m visit visited in
+    let second : m.faults ≤ last.after.faults = ends in
     omega (arith, first, second)
 
-lacking_file : (left : List Names) (old got : List Kept) (made most : ℕ) (s t : PeerState) (last : List Visit) (new : List Kept) → AtFile left old got made most NoMemory s last t new → s.faults ≤ t.faults
-lacking_file [] old got made most s t last new h = absurd h
-lacking_file (path ∷ more) old got made most s t last new (inl not) = lacking_asked (file_path path) made most s t not.not
-lacking_file (path ∷ more) old got made most s t last new (inr asked) =
-    let first = visit_counts s asked.at asked.visit asked.visited in
-    let second = lacking_use path asked.worth asked.visit asked.at t asked.ends in
+lacking_file : (left : List Names) (files : FilesKept) (count : Requests) (last : Stretch) → AtFile left files count NoMemory last → last.before.faults ≤ last.after.faults
+lacking_file [] files count last h = absurd h
+lacking_file (path ∷ more) files count last (inl not) = lacking_asked (file_path path) count.made count.most last.before last.after not.not
+lacking_file (path ∷ more) files count last (inr asked) =
+    let first = visit_counts last.before asked.at asked.visit asked.visited in
+    let second = lacking_use path asked.worth asked.visit asked.at last.after asked.ends in
     omega (arith, first, second)
 
-lacking_goes : (due : List Names) (way : Way) (made most : ℕ) (old new : Copied) (mid t : PeerState) (rest : List Visit) → Goes due way made most old mid rest (Err NoMemory) t new → mid.faults ≤ t.faults
-lacking_goes [] way made most old new mid t rest (inr un) = same_count mid t un.stays
-lacking_goes [] way made most old new mid t rest (inl takes) =
-    let chain = visits_count mid takes.mid takes.visits takes.chain in
-    let ends = lacking_file takes.left old.files takes.got (made + length takes.visits) most takes.mid t takes.last new.files takes.ends in
+lacking_goes : (due : List Names) (way : Way) (count : Requests) (old new : Copied) (asks : Stretch) → Goes due way count old asks (Err NoMemory) new → asks.before.faults ≤ asks.after.faults
+lacking_goes [] way count old new asks (inr un) = same_count asks.before asks.after un.stays
+lacking_goes [] way count old new asks (inl takes) =
+    let chain = visits_count asks.before takes.mid takes.visits takes.chain in
+    let ends : takes.mid.faults ≤ asks.after.faults = lacking_file takes.left _ _ _ takes.ends in
     omega (arith, chain, ends)
-lacking_goes (dir ∷ due) way made most old new mid t rest goes = lacking_page dir made most mid t rest goes.0
+lacking_goes (dir ∷ due) way count old new asks goes = lacking_page dir count asks goes.0
 
 is_other : (e : MirrorError) → IsOther e ⊎ (e ≡ NoMemory)
 is_other NoMemory = inr refl
@@ -182,21 +183,21 @@ is_other (Short p got announced) = inl tt
 is_other (TooLong p) = inl tt
 is_other (Budget m) = inl tt
 
-all_counts : (due : List Names) (way : Way) (made most : ℕ) (old new : Copied) (mid t : PeerState) (rest : List Visit) (result : Result Unit MirrorError) → t.faults < greatest
-    → Goes due way made most old mid rest result t new → mid.faults ≤ t.faults
-all_counts due way made most old new mid t rest (Ok x) room goes = goes_count due way made most old new mid t rest goes
-all_counts due way made most old new mid t rest (Err e) room goes = by (is_other e)
+all_counts : (due : List Names) (way : Way) (count : Requests) (old new : Copied) (asks : Stretch) (result : Result Unit MirrorError) → asks.after.faults < greatest
+    → Goes due way count old asks result new → asks.before.faults ≤ asks.after.faults
+all_counts due way count old new asks (Ok x) room goes = goes_count due way count old new asks goes
+all_counts due way count old new asks (Err e) room goes = by (is_other e)
   where
-    by : IsOther e ⊎ (e ≡ NoMemory) → mid.faults ≤ t.faults
-    by (inl other) = goes_counts due way made most old new mid t rest e room other goes
-    by (inr lacks) = lacking_goes due way made most old new mid t rest (subst (λ x. Goes due way made most old mid rest (Err x) t new) lacks goes)
+    by : IsOther e ⊎ (e ≡ NoMemory) → asks.before.faults ≤ asks.after.faults
+    by (inl other) = goes_counts due way count old new asks e room other goes
+    by (inr lacks) = lacking_goes due way count old new asks (subst (λ x. Goes due way count old asks (Err x) new) lacks goes)
 
 pub still_told : (s t : PeerState) (old new : Copied) (most : ℕ) (result : Result Unit MirrorError) (f : Fetched s old most result t new) → (w : World) → IsWorld w → IsLinkless w
     → RefusedNothing s.faults t.faults → TellsStill w s → TellsOne w (visits_of f)
 still_told s t old new most result f w world linkless nothing still =
     let first = visits_count s f.mid f.pages (whole_visits s f.mid f.pages f.chain) in
-    let second = all_counts f.way.due f.way (length f.pages) most old new f.mid t f.rest result nothing.room f.goes in
+    let second = all_counts f.way.due f.way _ old new (record { before = f.mid; visits = f.rest; after = t }) result nothing.room f.goes in
     let quiet = quiet_first s.faults f.mid.faults t.faults first second nothing in
     let (pages, there) = pages_told w s f.mid f.pages start f.way 0 world linkless still quiet f.chain f.read (record { read = []; walk = at_start w (tree_parts w.tree world.tree); many = refl }) in
     let on = pages_walked w s f.mid f.pages f.way world pages quiet f.chain f.read in
-    told_join w f.pages f.rest pages (goes_told w f.way.due on.read f.way (length f.pages) most old f.mid f.rest result t new linkless on.walk refl there f.goes)
+    told_join w f.pages f.rest pages (goes_told w f.way.due on.read f.way _ old (record { before = f.mid; visits = f.rest; after = t }) result new linkless on.walk refl there f.goes)

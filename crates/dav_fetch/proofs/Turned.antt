@@ -7,9 +7,8 @@ use Rattle.dav_core.specs.Path.{Names}
 use Rattle.dav_core.specs.World.{SameBesidesOpens, World}
 use Rattle.dav_core.proofs.UnchangedLemmas.{same_besides, same_besides_then}
 use Rattle.dav_fetch.specs.declared.copied.Copied.{Copied}
-use Rattle.dav_fetch.specs.declared.copied.Kept.{Kept}
 use Rattle.dav_fetch.specs.declared.error.MirrorError.{MirrorError}
-use Rattle.dav_fetch.specs.Fetching.{AtFile, AtPage, Fetched, FilesEnd, Goes, Visited, Visits, visits_of}
+use Rattle.dav_fetch.specs.Fetching.{AtFile, AtPage, Fetched, FilesEnd, FilesKept, Goes, Requests, Stretch, Visited, Visits, visits_of}
 use Rattle.dav_fetch.specs.Mirroring.{AllTold}
 use Rattle.dav_fetch.specs.Peer.{Came, GoesOn, PeerState, RepliesIn, Seen}
 use Rattle.dav_fetch.specs.Turning.{AreTurned, MetAfter, TurnedTimes}
@@ -35,32 +34,30 @@ no_visit s visits e = record { end = s; all = subst (λ v. Visits s v s) (sym e)
 one_visit : (s t : PeerState) (visit : Visit) (visits : List Visit) → visits ≡ visit ∷ [] → Visited s visit t → Chain s visits
 one_visit s t visit visits e visited = record { end = t; all = subst (λ v. Visits s v t) (sym e) (t, visited, refl) }
 
-at_page : (dir : Names) (made most : ℕ) (e : MirrorError) (s : PeerState) (last : List Visit) (t : PeerState) → AtPage dir made most e s last t → Chain s last
-at_page dir made most e s last t (inl not) = no_visit s last not.0
-at_page dir made most e s last t (inr (visit, m, one, visited, is, ends)) = one_visit s m visit last one visited
+at_page : (dir : Names) (count : Requests) (e : MirrorError) (last : Stretch) → AtPage dir count e last → Chain last.before last.visits
+at_page dir count e last (inl not) = no_visit last.before last.visits not.0
+at_page dir count e last (inr (visit, m, one, visited, is, ends)) = one_visit last.before m visit last.visits one visited
 
-at_file : (left : List Names) (old got : List Kept) (made most : ℕ) (e : MirrorError) (s : PeerState) (last : List Visit) (t : PeerState) (new : List Kept) → AtFile left old got made most e s last t new → Chain s last
-at_file [] old got made most e s last t new h = absurd h
-at_file (path ∷ more) old got made most e s last t new (inl not) = no_visit s last not.none
-at_file (path ∷ more) old got made most e s last t new (inr asked) = one_visit s asked.at asked.visit last asked.one asked.visited
+at_file : (left : List Names) (files : FilesKept) (count : Requests) (e : MirrorError) (last : Stretch) → AtFile left files count e last → Chain last.before last.visits
+at_file [] files count e last h = absurd h
+at_file (path ∷ more) files count e last (inl not) = no_visit last.before last.visits not.none
+at_file (path ∷ more) files count e last (inr asked) = one_visit last.before asked.at asked.visit last.visits asked.one asked.visited
 
-files_end : (left : List Names) (old got : List Kept) (made most : ℕ) (result : Result Unit MirrorError) (s : PeerState) (last : List Visit) (t : PeerState) (new : List Kept)
-    → FilesEnd left old got made most result s last t new → Chain s last
-files_end left old got made most (Ok x) s last t new h = no_visit s last h.1
-files_end left old got made most (Err e) s last t new h = at_file left old got made most e s last t new h
+files_end : (left : List Names) (files : FilesKept) (count : Requests) (result : Result Unit MirrorError) (last : Stretch) → FilesEnd left files count result last → Chain last.before last.visits
+files_end left files count (Ok x) last h = no_visit last.before last.visits h.1
+files_end left files count (Err e) last h = at_file left files count e last h
 
-goes_on : (due : List Names) (way : Way) (made most : ℕ) (old : Copied) (s : PeerState) (rest : List Visit) (result : Result Unit MirrorError) (t : PeerState) (new : Copied)
-    → Goes due way made most old s rest result t new → Chain s rest
-goes_on [] way made most old s rest result t new (inr un) = no_visit s rest un.none
-goes_on [] way made most old s rest result t new (inl takes) =
-    let last = files_end takes.left old.files takes.got _ most result takes.mid takes.last t new.files takes.ends in
-    record { end = last.end; all = subst (λ v. Visits s v last.end) (sym takes.parts) (visits_then s takes.mid last.end takes.visits takes.last takes.chain last.all) }
-goes_on (dir ∷ due) way made most old s rest (Ok x) t new h = absurd h
-goes_on (dir ∷ due) way made most old s rest (Err e) t new h = at_page dir made most e s rest t h.0
+goes_on : (due : List Names) (way : Way) (count : Requests) (old : Copied) (asks : Stretch) (result : Result Unit MirrorError) (new : Copied) → Goes due way count old asks result new → Chain asks.before asks.visits
+goes_on [] way count old asks result new (inr un) = no_visit asks.before asks.visits un.none
+goes_on [] way count old asks result new (inl takes) =
+    let last : Chain takes.mid takes.last = files_end takes.left _ _ result _ takes.ends in
+    record { end = last.end; all = subst (λ v. Visits asks.before v last.end) (sym takes.parts) (visits_then asks.before takes.mid last.end takes.visits takes.last takes.chain last.all) }
+goes_on (dir ∷ due) way count old asks (Ok x) new h = absurd h
+goes_on (dir ∷ due) way count old asks (Err e) new h = at_page dir count e asks h.0
 
 pub fetched_chain : (s t : PeerState) (old new : Copied) (most : ℕ) (result : Result Unit MirrorError) (f : Fetched s old most result t new) → Chain s (visits_of f)
 fetched_chain s t old new most result f =
-    let rest = goes_on f.way.due f.way _ most old f.mid f.rest result t new f.goes in
+    let rest : Chain f.mid f.rest = goes_on f.way.due f.way _ old _ result new f.goes in
     record { end = rest.end; all = visits_then s f.mid rest.end f.pages f.rest (whole_visits s f.mid f.pages f.chain) rest.all }
 
 -- ---- their worlds

@@ -9,7 +9,7 @@ use Rattle.dav_fetch.specs.declared.error.MirrorError.TheVariants.{Peer as PeerF
 use Rattle.dav_fetch.specs.declared.peer.Got.{Got}
 use Rattle.dav_fetch.specs.declared.taking.Taken.{Taken}
 use Rattle.dav_fetch.specs.Asking.{asked_for, awaits, dir_path, file_path}
-use Rattle.dav_fetch.specs.Fetching.{AtPage, FileEnds, link_is_short, taken}
+use Rattle.dav_fetch.specs.Fetching.{AtPage, FileEnds, Requests, link_is_short, taken}
 use Rattle.dav_fetch.specs.Judging.{Use, gives, refuses, spoils, use_of}
 use Rattle.dav_fetch.specs.Peer.{Gets, IsAskable, PeerState}
 use Rattle.dav_fetch.specs.Reading.{ReadOn}
@@ -49,12 +49,13 @@ pub spoiled_visit : (path : WebPath) (names : Names) (visit : Visit) (e : Mirror
 spoiled_visit path names visit e s is (inl so) = subst (λ x. FileEnds names spoils visit x s s) (sym so) (is, refl)
 spoiled_visit path names visit e s is (inr so) = subst (λ x. FileEnds names spoils visit x s s) (sym so) (omega arith)
 
-page_due : (dir : Names) (made most : ℕ) (s t : PeerState) (e : MirrorError) → made < most → link_is_short (dir_path dir) → PageFails dir s e t → (last : List Visit) × AtPage dir made most e s last t
-page_due dir made most s t e few short (inl not) = ([], inl (refl, not_got (dir_path dir) made most e s t few short not))
-page_due dir made most s t e few short (inr (visit, m, visited, is, ends)) = (visit ∷ [], inr (visit, m, refl, visited, is, ends))
+page_due : (dir : Names) (count : Requests) (s t : PeerState) (e : MirrorError) → count.made < count.most → link_is_short (dir_path dir) → PageFails dir s e t
+    → (last : List Visit) × AtPage dir count e (record { before = s; visits = last; after = t })
+page_due dir count s t e few short (inl not) = ([], inl (refl, not_got (dir_path dir) count.made count.most e s t few short not))
+page_due dir count s t e few short (inr (visit, m, visited, is, ends)) = (visit ∷ [], inr (visit, m, refl, visited, is, ends))
 
-pub pages_due : {A : Type 0} (dir : Names) (path : WebPath) (made most : ℕ) (s t : PeerState) (r : Result A MirrorError) → path ≡ dir_path dir → made < most → link_is_short path
-    → IfErr r (λ e. PageFails path.names s e t) → IfErr r (λ e. (last : List Visit) × AtPage dir made most e s last t)
-pages_due dir path made most s t (Ok x) is few short h = tt
-pages_due dir path made most s t (Err e) is few short h =
-    page_due dir made most s t e few (subst link_is_short is short) (subst (λ n. PageFails n s e t) (ap (λ (p : WebPath). p.names) is) h)
+pub pages_due : {A : Type 0} (dir : Names) (path : WebPath) (count : Requests) (s t : PeerState) (r : Result A MirrorError) → path ≡ dir_path dir → count.made < count.most → link_is_short path
+    → IfErr r (λ e. PageFails path.names s e t) → IfErr r (λ e. (last : List Visit) × AtPage dir count e (record { before = s; visits = last; after = t }))
+pages_due dir path count s t (Ok x) is few short h = tt
+pages_due dir path count s t (Err e) is few short h =
+    page_due dir count s t e few (subst link_is_short is short) (subst (λ n. PageFails n s e t) (ap (λ (p : WebPath). p.names) is) h)

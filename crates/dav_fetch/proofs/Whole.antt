@@ -50,7 +50,8 @@ gathered_fetched s m t old most w dirs paths g (visits, chain, read, made, withi
     mid = gathers.mid;
     chain = gathers.chain;
     within = subst (λ k. k + length gathers.visits ≤ most) made gathers.within;
-    ends = subst (λ k. FilesEnd gathers.left old.files gathers.got (k + length gathers.visits) most g.ended gathers.mid gathers.last t g.files.items) made gathers.ends;
+    ends = subst (λ k. FilesEnd gathers.left (record { old = old.files; got = gathers.got; new = g.files.items }) (record { made = k + length gathers.visits; most = most }) g.ended
+        (record { before = gathers.mid; visits = gathers.last; after = t })) made gathers.ends;
   });
 }
 

@@ -15,7 +15,7 @@ use Rattle.dav_fetch.specs.declared.found.Found.{Found}
 use Rattle.dav_fetch.specs.Asking.{awaits, asked_for, dir_path, file_path}
 use Rattle.dav_fetch.specs.Copy.{IsOf, path_cmp}
 use Rattle.dav_fetch.specs.Judging.{Use, gives, keeps, refuses, spoils, use_of, grown}
-use Rattle.dav_fetch.specs.Peer.{Calls, CountsFailure, GoesOn, PeerState, RepliesIn, StaysStill, TellsOwn, TurnsOnce, links_most}
+use Rattle.dav_fetch.specs.Peer.{GoesOn, PeerState, RepliesIn, StaysStill, TellsOwn, TurnsOnce, links_most}
 use Rattle.dav_fetch.specs.Reading.{IsOver, ReadOn}
 use Rattle.dav_fetch.specs.Walk.{Visit, IsPageOf, Way, Pages, page_most, start}
 
@@ -131,69 +131,85 @@ pub record IsOrdered (found paths : List Names) : Type 0 where
 
 -- ---- the whole of it
 
+-- how many requests are made, of how many that are allowed
+pub record Requests : Type 0 where
+  pub made : ℕ
+  pub most : ℕ
+
+-- A part of a fetch: the peer before it, the visits that it made, and the peer behind it.
+pub record Stretch : Type 0 where
+  pub before : PeerState
+  pub visits : List Visit
+  pub after : PeerState
+
+-- What is kept of files: before a fetch, of those that came so far, and behind it.
+pub record FilesKept : Type 0 where
+  pub old : List Kept
+  pub got : List Kept
+  pub new : List Kept
+
 -- A page was due. After an error in the pages the copy is as it was.
-abbrev pub AtPage : Names → ℕ → ℕ → MirrorError → PeerState → List Visit → PeerState → Type 0
-AtPage dir made most e s last t = ((last ≡ []) × NotAsked (dir_path dir) made most e s t)
-    ⊎ ((visit : Visit) × (m : PeerState) × (last ≡ visit ∷ []) × Visited s visit m × IsPageVisit dir visit
-    × PageEnds dir visit e m t)
+abbrev pub AtPage : Names → Requests → MirrorError → Stretch → Type 0
+AtPage dir count e last = ((last.visits ≡ []) × NotAsked (dir_path dir) count.made count.most e last.before last.after)
+    ⊎ ((visit : Visit) × (m : PeerState) × (last.visits ≡ visit ∷ []) × Visited last.before visit m × IsPageVisit dir visit
+    × PageEnds dir visit e m last.after)
 
 -- A file was due, and its request wasn't made or got no answer: what is kept of it stays.
-pub record FileNotAsked (path : Names) (more : List Names) (old got : List Kept) (made most : ℕ) (e : MirrorError)
-    (s : PeerState) (last : List Visit) (t : PeerState) (new : List Kept) : Type 0 where
-  pub none : last ≡ []
-  pub not : NotAsked (file_path path) made most e s t
-  pub kept : new ≡ got ++ kept_of (path ∷ more) old
+pub record FileNotAsked (path : Names) (more : List Names) (files : FilesKept) (count : Requests) (e : MirrorError) (last : Stretch) : Type 0 where
+  pub none : last.visits ≡ []
+  pub not : NotAsked (file_path path) count.made count.most e last.before last.after
+  pub kept : files.new ≡ files.got ++ kept_of (path ∷ more) files.old
 
 -- Its answer ended it: it keeps the bytes that came.
-pub record FileAsked (path : Names) (more : List Names) (old got : List Kept) (e : MirrorError)
-    (s : PeerState) (last : List Visit) (t : PeerState) (new : List Kept) : Type 0 where
+pub record FileAsked (path : Names) (more : List Names) (files : FilesKept) (e : MirrorError) (last : Stretch) : Type 0 where
   pub visit : Visit
   pub worth : Use
   pub at : PeerState
-  pub one : last ≡ visit ∷ []
-  pub visited : Visited s visit at
-  pub is : IsFileVisit path (kept_at path old) visit worth
-  pub ends : FileEnds path worth visit e at t
-  pub kept : new ≡ got ++ (option_to_list (taken (kept_at path old) worth visit.came) ++ kept_of more old)
+  pub one : last.visits ≡ visit ∷ []
+  pub visited : Visited last.before visit at
+  pub is : IsFileVisit path (kept_at path files.old) visit worth
+  pub ends : FileEnds path worth visit e at last.after
+  pub kept : files.new ≡ files.got ++ (option_to_list (taken (kept_at path files.old) worth visit.came) ++ kept_of more files.old)
 
-abbrev pub AtFile : List Names → List Kept → List Kept → ℕ → ℕ → MirrorError → PeerState → List Visit → PeerState → List Kept → Type 0
-AtFile [] old got made most e s last t new = ⊥
-AtFile (path ∷ more) old got made most e s last t new = FileNotAsked path more old got made most e s last t new
-    ⊎ FileAsked path more old got e s last t new
+-- These files were still due, and the first of them ended it.
+abbrev pub AtFile : List Names → FilesKept → Requests → MirrorError → Stretch → Type 0
+AtFile [] files count e last = ⊥
+AtFile (path ∷ more) files count e last = FileNotAsked path more files count e last ⊎ FileAsked path more files e last
 
-abbrev pub FilesEnd : List Names → List Kept → List Kept → ℕ → ℕ → Result Unit MirrorError → PeerState → List Visit → PeerState → List Kept → Type 0
-FilesEnd left old got made most (Ok x) s last t new = (left ≡ []) × (last ≡ []) × (t ≡ s) × (new ≡ got)
-FilesEnd left old got made most (Err e) s last t new = AtFile left old got made most e s last t new
+-- How the asking for files ended: at Ok none is due any more; an error is that of the first that is.
+abbrev pub FilesEnd : List Names → FilesKept → Requests → Result Unit MirrorError → Stretch → Type 0
+FilesEnd left files count (Ok x) last = (left ≡ []) × (last.visits ≡ []) × (last.after ≡ last.before) × (files.new ≡ files.got)
+FilesEnd left files count (Err e) last = AtFile left files count e last
 
 -- All pages are read: the files are asked in order of their paths. Kept files that no page names are gone.
-pub record Takes (way : Way) (made most : ℕ) (old : Copied) (s : PeerState) (rest : List Visit) (result : Result Unit MirrorError) (t : PeerState) (new : Copied) : Type 0 where
+pub record Takes (way : Way) (count : Requests) (old : Copied) (asks : Stretch) (result : Result Unit MirrorError) (new : Copied) : Type 0 where
   pub dirs : IsOrdered way.dirs new.dirs
   pub paths : List Names
   pub ordered : IsOrdered way.files paths
   pub visits : List Visit
   pub last : List Visit
-  pub parts : rest ≡ visits ++ last
+  pub parts : asks.visits ≡ visits ++ last
   pub got : List Kept
   pub left : List Names
   pub took : Files old.files paths visits got left
   pub mid : PeerState
-  pub chain : Visits s visits mid
-  pub within : made + length visits ≤ most
-  pub ends : FilesEnd left old.files got (made + length visits) most result mid last t new.files
+  pub chain : Visits asks.before visits mid
+  pub within : count.made + length visits ≤ count.most
+  pub ends : FilesEnd left (record { old = old.files; got = got; new = new.files })
+      (record count { made = count.made + length visits }) result (record { before = mid; visits = last; after = asks.after })
 
 -- All pages are read, and memory is refused to what they name: no file is asked, and the copy is as it was.
-pub record Unplanned (old : Copied) (s : PeerState) (rest : List Visit) (result : Result Unit MirrorError)
-    (t : PeerState) (new : Copied) : Type 0 where
+pub record Unplanned (old : Copied) (asks : Stretch) (result : Result Unit MirrorError) (new : Copied) : Type 0 where
   pub lacks : result ≡ Err NoMemory
-  pub none : rest ≡ []
-  pub stays : t ≡ s
+  pub none : asks.visits ≡ []
+  pub stays : asks.after ≡ asks.before
   pub same : new ≡ old
 
-abbrev pub Goes : List Names → Way → ℕ → ℕ → Copied → PeerState → List Visit → Result Unit MirrorError → PeerState → Copied → Type 0
-Goes [] way made most old s rest result t new = Takes way made most old s rest result t new
-    ⊎ Unplanned old s rest result t new
-Goes (dir ∷ due) way made most old s rest (Ok x) t new = ⊥
-Goes (dir ∷ due) way made most old s rest (Err e) t new = AtPage dir made most e s rest t × (new ≡ old)
+-- What came behind the pages that were read: where one more was due, the error of that page; else the files.
+abbrev pub Goes : List Names → Way → Requests → Copied → Stretch → Result Unit MirrorError → Copied → Type 0
+Goes [] way count old asks result new = Takes way count old asks result new ⊎ Unplanned old asks result new
+Goes (dir ∷ due) way count old asks (Ok x) new = ⊥
+Goes (dir ∷ due) way count old asks (Err e) new = AtPage dir count e asks × (new ≡ old)
 
 -- The clause of `fetch`: the pages that were read, and the visits behind them.
 pub record Fetched (s : PeerState) (old : Copied) (most : ℕ) (result : Result Unit MirrorError) (t : PeerState) (new : Copied) : Type 0 where
@@ -205,7 +221,7 @@ pub record Fetched (s : PeerState) (old : Copied) (most : ℕ) (result : Result 
   pub within : length pages ≤ most
   -- the visits behind the pages: to files, and the one that ended it
   pub rest : List Visit
-  pub goes : Goes way.due way (length pages) most old mid rest result t new
+  pub goes : Goes way.due way (record { made = length pages; most = most }) old (record { before = mid; visits = rest; after = t }) result new
 
 -- all visits of it
 abbrev pub visits_of : {s : PeerState} {old : Copied} {most : ℕ} {result : Result Unit MirrorError} {t : PeerState} {new : Copied}
@@ -227,10 +243,3 @@ is_peer_error (Budget m) = false
 abbrev pub is_peer_failure : {A : Type 0} → Result A MirrorError → Bool
 is_peer_failure (Ok a) = false
 is_peer_failure (Err e) = is_peer_error e
-
--- No more replies and turns are counted than requests were allowed. A failure of a call is told as such, and nothing else
--- is.
-pub record CountsFetch (before : Calls) (most : ℕ) (result : Result Unit MirrorError) (after : Calls) : Type 0 where
-  pub replies : after.replies ≤ before.replies + most
-  pub turns : after.turns ≤ before.turns + most
-  pub failures : CountsFailure (is_peer_failure result) before after

@@ -16,4 +16,5 @@ pub record Gathers (old : List Kept) (paths : List Names) (made most : ℕ) (s :
   pub mid : PeerState
   pub chain : Visits s visits mid
   pub within : made + length visits ≤ most
-  pub ends : FilesEnd left old got (made + length visits) most result.ended mid last t result.files.items
+  pub ends : FilesEnd left (record { old = old; got = got; new = result.files.items })
+      (record { made = made + length visits; most = most }) result.ended (record { before = mid; visits = last; after = t })

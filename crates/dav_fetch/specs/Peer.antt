@@ -180,3 +180,9 @@ pub record CountsPiece {A : Type 0} (before : Calls) (result : Result A PeerFaul
   pub replies : after.replies ≤ before.replies
   pub turns : after.turns ≤ before.turns
   pub failures : CountsFailure (is_failure result) before after
+
+-- No more replies and turns are counted than so many. A failure is counted, and nothing else is.
+pub record Counts (most : ℕ) (failed : Bool) (before after : Calls) : Type 0 where
+  pub replies : after.replies ≤ before.replies + most
+  pub turns : after.turns ≤ before.turns + most
+  pub failures : CountsFailure failed before after

@@ -37,7 +37,7 @@ pub record StopsAt (s : PeerState) (most : ℕ) (e : MirrorError) (t : PeerState
   pub read : Pages start visits way
   pub is_due : way.due ≡ dir ∷ due
   pub within : length visits ≤ most
-  pub at : AtPage dir (length visits) most e mid last t
+  pub at : AtPage dir (record { made = length visits; most = most }) e (record { before = mid; visits = last; after = t })
 
 abbrev pub WalksTo : PeerState → ℕ → Result Walked MirrorError → PeerState → Type 0
 WalksTo s most (Ok w) t = (visits : List Visit) × WholeVisits s visits t

@@ -1,12 +1,12 @@
 //! A tree is fetched: its pages first, then its files.
-ghost use Rattle.std.specs.Prelude.{◌≡◌, ◌+◌, ◌<◌, ◌≤◌, [], drop, length, vec_capacity, IfOk};
+ghost use Rattle.std.specs.Prelude.{◌≡◌, ◌-◌, ◌<◌, ◌≤◌, [], drop, length, vec_capacity, IfOk};
 ghost use Rattle.std.specs.List.{AllByRecursion};
 ghost use Rattle.dav_core.specs.Disk.{DiskState};
 ghost use Rattle.dav_fetch.specs.Copy.{IsCopy, IsKept};
-ghost use Rattle.dav_fetch.specs.Fetching.{CountsFetch, Fetched, IsOrdered, is_peer_failure};
+ghost use Rattle.dav_fetch.specs.Fetching.{Fetched, IsOrdered, is_peer_failure};
 ghost use Rattle.dav_fetch.specs.Keeping.{AreAscending, AreInOrder};
 ghost use Rattle.dav_fetch.specs.Gathering.{Gathers};
-ghost use Rattle.dav_fetch.specs.Peer.{CountsFailure};
+ghost use Rattle.dav_fetch.specs.Peer.{Counts};
 
 use crate::copied::{Copied, Kept, KeptFiles, Paths};
 use crate::error::MirrorError;
@@ -80,9 +80,7 @@ fn gather<P: Peer>(
     requires kept { AllByRecursion IsKept old.items }
     requires made { made ≤ most }
     ensures gathers { Gathers old.items paths.now made most (P.state peer.old) result (P.state peer.new) }
-    ensures few { (P.calls peer.new).replies + made ≤ (P.calls peer.old).replies + most }
-    ensures turns_few { (P.calls peer.new).turns + made ≤ (P.calls peer.old).turns + most }
-    ensures failures { CountsFailure (is_peer_failure result.ended) (P.calls peer.old) (P.calls peer.new) }
+    ensures counts { Counts (most - made) (is_peer_failure result.ended) (P.calls peer.old) (P.calls peer.new) }
     ensures loan { P.loan peer.new ≡ P.loan peer.old }
     ensures since { (s : DiskState) → P.since peer.old s → P.since peer.new s }
 {
@@ -128,7 +126,7 @@ pub fn fetch<P: Peer>(
 ) -> Result<(), MirrorError>
     requires { IsCopy copy.old }
     ensures fetched { Fetched (P.state peer.old) copy.old most result (P.state peer.new) copy.new }
-    ensures calls { CountsFetch (P.calls peer.old) most result (P.calls peer.new) }
+    ensures calls { Counts most (is_peer_failure result) (P.calls peer.old) (P.calls peer.new) }
     ensures copy { IsCopy copy.new }
     ensures loan { P.loan peer.new ≡ P.loan peer.old }
     ensures since { (s : DiskState) → P.since peer.old s → P.since peer.new s }

@@ -5,7 +5,7 @@ ghost use Rattle.dav_core.specs.DavPath.{IsPath};
 ghost use Rattle.dav_fetch.specs.declared.found.Found.{Found as It};
 ghost use Rattle.dav_fetch.specs.Asking.{dir_path};
 ghost use Rattle.dav_fetch.specs.Fetching.{Visited, is_peer_failure, link_is_short};
-ghost use Rattle.dav_fetch.specs.Peer.{CountsFailure};
+ghost use Rattle.dav_fetch.specs.Peer.{Counts};
 ghost use Rattle.dav_fetch.specs.Reading.{IsOver};
 ghost use Rattle.dav_fetch.specs.Steps.{PageFails};
 ghost use Rattle.dav_fetch.specs.Walk.{IsFoundIn, IsPageOf, Visit};
@@ -49,9 +49,7 @@ pub(crate) fn ask_page<P: Peer>(
     ensures ok { IfOk result (λ found. (visit : Visit) × Visited (P.state peer.old) visit (P.state peer.new)
         × IsPageOf dir.now.names visit found.items × IsOver (P.state peer.new)) }
     ensures err { IfErr result (λ e. PageFails dir.now.names (P.state peer.old) e (P.state peer.new)) }
-    ensures replies { (P.calls peer.new).replies ≤ (P.calls peer.old).replies + 1 }
-    ensures turns { (P.calls peer.new).turns ≤ (P.calls peer.old).turns + 1 }
-    ensures failures { CountsFailure (is_peer_failure result) (P.calls peer.old) (P.calls peer.new) }
+    ensures counts { Counts 1 (is_peer_failure result) (P.calls peer.old) (P.calls peer.new) }
     ensures loan { P.loan peer.new ≡ P.loan peer.old }
     ensures since { (s : DiskState) → P.since peer.old s → P.since peer.new s }
 {

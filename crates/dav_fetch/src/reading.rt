@@ -1,6 +1,6 @@
 ghost use Rattle.std.specs.Prelude.{◌≡◌, ◌≤◌, ◌++◌, ℕ, List, min, take};
 ghost use Rattle.dav_core.specs.Disk.{DiskState};
-ghost use Rattle.dav_fetch.specs.Peer.{CountsFailure};
+ghost use Rattle.dav_fetch.specs.Peer.{Counts};
 ghost use Rattle.dav_fetch.specs.Reading.{ReadsTo, is_failed_end};
 
 use crate::peer::{Peer, PeerFault};
@@ -31,9 +31,7 @@ fn least(count: usize, left: u64) -> usize
 pub(crate) fn read_up_to<P: Peer>(peer: &mut P, due: u64, into: &mut Vec<u8>) -> Ended
     ensures reads { (came : List ℕ) × ReadsTo (P.state peer.old) due came result (P.state peer.new)
         × (into.new.items ≡ into.old.items ++ take due came) }
-    ensures replies { (P.calls peer.new).replies ≤ (P.calls peer.old).replies }
-    ensures turns { (P.calls peer.new).turns ≤ (P.calls peer.old).turns }
-    ensures failures { CountsFailure (is_failed_end result) (P.calls peer.old) (P.calls peer.new) }
+    ensures counts { Counts 0 (is_failed_end result) (P.calls peer.old) (P.calls peer.new) }
     ensures loan { P.loan peer.new ≡ P.loan peer.old }
     ensures since { (s : DiskState) → P.since peer.old s → P.since peer.new s }
 {

@@ -1,12 +1,12 @@
 // The visit of one file.
-ghost use Rattle.std.specs.Prelude.{◌≡◌, ◌+◌, ◌<◌, ◌≤◌, ◌⊎◌, Err, length};
+ghost use Rattle.std.specs.Prelude.{◌≡◌, ◌-◌, ◌<◌, ◌≤◌, ◌⊎◌, Err, length};
 ghost use Rattle.std.specs.Option.{ForSome};
 ghost use Rattle.dav_core.specs.Disk.{DiskState};
 ghost use Rattle.dav_core.specs.DavPath.{IsPath};
 ghost use Rattle.dav_fetch.specs.Asking.{file_path};
 ghost use Rattle.dav_fetch.specs.Copy.{IsKept};
 ghost use Rattle.dav_fetch.specs.Fetching.{is_peer_failure, link_is_short};
-ghost use Rattle.dav_fetch.specs.Peer.{CountsFailure};
+ghost use Rattle.dav_fetch.specs.Peer.{Counts};
 ghost use Rattle.dav_fetch.specs.Taking.{AsksFile, ReadsFile, TakesFile};
 
 use crate::asking::fields_for;
@@ -54,9 +54,7 @@ fn short(path: &DavPath, got: usize, announced: u64) -> MirrorError
 // Reads the bytes that are due of a file, behind those that are kept.
 fn read_file<P: Peer>(peer: &mut P, path: &DavPath, file: Kept, due: u64) -> Taken
     ensures reads { ReadsFile path.now file due (P.state peer.old) result (P.state peer.new) }
-    ensures replies { (P.calls peer.new).replies ≤ (P.calls peer.old).replies }
-    ensures turns { (P.calls peer.new).turns ≤ (P.calls peer.old).turns }
-    ensures failures { CountsFailure (is_peer_failure result.ended) (P.calls peer.old) (P.calls peer.new) }
+    ensures counts { Counts 0 (is_peer_failure result.ended) (P.calls peer.old) (P.calls peer.new) }
     ensures loan { P.loan peer.new ≡ P.loan peer.old }
     ensures since { (s : DiskState) → P.since peer.old s → P.since peer.new s }
 {
@@ -110,9 +108,7 @@ fn ask_file<P: Peer>(alloc: Global, peer: &mut P, path: &DavPath, kept: Option<K
     requires link { link_is_short path.now }
     requires kept { ForSome kept IsKept }
     ensures asks { AsksFile path.now.names kept (P.state peer.old) result (P.state peer.new) }
-    ensures replies { (P.calls peer.new).replies ≤ (P.calls peer.old).replies + 1 }
-    ensures turns { (P.calls peer.new).turns ≤ (P.calls peer.old).turns + 1 }
-    ensures failures { CountsFailure (is_peer_failure result.ended) (P.calls peer.old) (P.calls peer.new) }
+    ensures counts { Counts 1 (is_peer_failure result.ended) (P.calls peer.old) (P.calls peer.new) }
     ensures loan { P.loan peer.new ≡ P.loan peer.old }
     ensures since { (s : DiskState) → P.since peer.old s → P.since peer.new s }
 {
@@ -149,11 +145,8 @@ pub(crate) fn take_file<P: Peer>(
     requires made { made ≤ most }
     requires kept { ForSome kept IsKept }
     ensures takes { TakesFile names.now kept made most (P.state peer.old) result (P.state peer.new) }
-    ensures replies { (P.calls peer.new).replies ≤ (P.calls peer.old).replies + 1 }
-    ensures turns { (P.calls peer.new).turns ≤ (P.calls peer.old).turns + 1 }
-    ensures few { (P.calls peer.new).replies + made ≤ (P.calls peer.old).replies + most }
-    ensures turns_few { (P.calls peer.new).turns + made ≤ (P.calls peer.old).turns + most }
-    ensures failures { CountsFailure (is_peer_failure result.ended) (P.calls peer.old) (P.calls peer.new) }
+    ensures counts { Counts 1 (is_peer_failure result.ended) (P.calls peer.old) (P.calls peer.new) }
+    ensures few { Counts (most - made) (is_peer_failure result.ended) (P.calls peer.old) (P.calls peer.new) }
     ensures loan { P.loan peer.new ≡ P.loan peer.old }
     ensures since { (s : DiskState) → P.since peer.old s → P.since peer.new s }
 {

@@ -1,9 +1,9 @@
-ghost use Rattle.std.specs.Prelude.{true, ◌≡◌, ◌<◌, ◌≤◌, ◌+◌, ◌++◌, [], ◌∷◌, ℕ, List, IfOk, IfErr, OnOk, length, slice_index_or};
+ghost use Rattle.std.specs.Prelude.{true, false, ◌≡◌, ◌<◌, ◌≤◌, ◌+◌, ◌-◌, ◌++◌, [], ◌∷◌, ℕ, List, IfOk, IfErr, OnOk, length, slice_index_or};
 ghost use Rattle.std.specs.List.{list_all};
 ghost use Rattle.dav_core.specs.Disk.{DiskState};
 ghost use Rattle.dav_core.specs.Path.{is_plain};
 ghost use Rattle.dav_fetch.specs.Fetching.{AtPage, Visited, WholeVisits, is_peer_failure};
-ghost use Rattle.dav_fetch.specs.Peer.{CountsFailure};
+ghost use Rattle.dav_fetch.specs.Peer.{Counts};
 ghost use Rattle.dav_fetch.specs.Reading.{IsOver};
 ghost use Rattle.dav_fetch.specs.Naming.{AreNamed};
 ghost use Rattle.dav_fetch.specs.Steps.{WalksTo};
@@ -111,12 +111,10 @@ fn ask_due<P: Peer>(
         × IsPageOf dir.now visit found.items × IsOver (P.state peer.new)) }
     ensures few { OnOk result (made < most) }
     ensures err { IfErr result (λ e. (last : List Visit)
-        × AtPage dir.now made most e (P.state peer.old) last (P.state peer.new)) }
-    ensures replies { (P.calls peer.new).replies ≤ (P.calls peer.old).replies + 1 }
-    ensures turns { (P.calls peer.new).turns ≤ (P.calls peer.old).turns + 1 }
-    ensures within { (P.calls peer.new).replies + made ≤ (P.calls peer.old).replies + most }
-    ensures turns_within { (P.calls peer.new).turns + made ≤ (P.calls peer.old).turns + most }
-    ensures failures { CountsFailure (is_peer_failure result) (P.calls peer.old) (P.calls peer.new) }
+        × AtPage dir.now (record { made = made; most = most }) e
+        (record { before = P.state peer.old; visits = last; after = P.state peer.new })) }
+    ensures counts { Counts 1 (is_peer_failure result) (P.calls peer.old) (P.calls peer.new) }
+    ensures within { Counts (most - made) (is_peer_failure result) (P.calls peer.old) (P.calls peer.new) }
     ensures loan { P.loan peer.new ≡ P.loan peer.old }
     ensures since { (s : DiskState) → P.since peer.old s → P.since peer.new s }
 {
@@ -146,13 +144,10 @@ fn go_on<P: Peer>(
     ensures inside { OnOk result (at < length walked.new.dirs.items) }
     ensures made { OnOk result ((walked.new.made ≡ walked.old.made + 1) × (walked.new.made ≤ most)) }
     ensures ends { IfErr result (λ e. (last : List Visit)
-        × AtPage (slice_index_or walked.old.dirs.items at []) walked.old.made most e (P.state peer.old) last
-        (P.state peer.new)) }
-    ensures replies { (P.calls peer.new).replies ≤ (P.calls peer.old).replies + 1 }
-    ensures turns { (P.calls peer.new).turns ≤ (P.calls peer.old).turns + 1 }
-    ensures within { (P.calls peer.new).replies + walked.old.made ≤ (P.calls peer.old).replies + most }
-    ensures turns_within { (P.calls peer.new).turns + walked.old.made ≤ (P.calls peer.old).turns + most }
-    ensures failures { CountsFailure (is_peer_failure result) (P.calls peer.old) (P.calls peer.new) }
+        × AtPage (slice_index_or walked.old.dirs.items at []) (record { made = walked.old.made; most = most }) e
+        (record { before = P.state peer.old; visits = last; after = P.state peer.new })) }
+    ensures counts { Counts 1 (is_peer_failure result) (P.calls peer.old) (P.calls peer.new) }
+    ensures within { Counts (most - walked.old.made) (is_peer_failure result) (P.calls peer.old) (P.calls peer.new) }
     ensures loan { P.loan peer.new ≡ P.loan peer.old }
     ensures since { (s : DiskState) → P.since peer.old s → P.since peer.new s }
 {
@@ -171,11 +166,8 @@ fn go_on<P: Peer>(
 // Asks for the page of each directory that is found, in the order of finding, from the root on.
 pub(crate) fn walk<P: Peer>(alloc: Global, peer: &mut P, most: u64) -> Result<Walked, MirrorError>
     ensures walks { WalksTo (P.state peer.old) most result (P.state peer.new) }
-    ensures replies { IfOk result (λ walked. (P.calls peer.new).replies ≤ (P.calls peer.old).replies + walked.made) }
-    ensures turns { IfOk result (λ walked. (P.calls peer.new).turns ≤ (P.calls peer.old).turns + walked.made) }
-    ensures within { (P.calls peer.new).replies ≤ (P.calls peer.old).replies + most }
-    ensures turns_within { (P.calls peer.new).turns ≤ (P.calls peer.old).turns + most }
-    ensures failures { CountsFailure (is_peer_failure result) (P.calls peer.old) (P.calls peer.new) }
+    ensures counts { IfOk result (λ walked. Counts walked.made false (P.calls peer.old) (P.calls peer.new)) }
+    ensures within { Counts most (is_peer_failure result) (P.calls peer.old) (P.calls peer.new) }
     ensures loan { P.loan peer.new ≡ P.loan peer.old }
     ensures since { (s : DiskState) → P.since peer.old s → P.since peer.new s }
 {

@@ -1,9 +1,10 @@
 use Rattle.std.proofs.Common.{◌≡◌, ◌∙◌, ◌<◌, ◌++◌, length, [], take, min, refl, ap, rules, arith}
 use Rattle.dav_fetch.proofs.BodyRead.{kept_more, left_more, read_more, read_none}
+use Rattle.dav_fetch.proofs.Counting.{counts_none, piece_behind}
 use Rattle.dav_fetch.proofs.reading.read_up_to.Goals as goal
 
 pub loop-left-init : goal.loop-left-init
-loop-left-init g c = ([], read_none _, search rules, search rules, refl, refl, omega arith, refl, λ s h. h, omega arith)
+loop-left-init g c = ([], read_none _, search rules, search rules, refl, refl, counts_none _, λ s h. h)
 
 pub loop-left-preserved : goal.loop-left-preserved
 loop-left-preserved g c =
@@ -17,8 +18,6 @@ loop-left-preserved g c =
       left_more c.args.due c.in-Ok.count wanted c.loop-left.left i.0 c.piece.new.into c.in-Ok.ensures.gives.is.0 c.least-wanted.ensures i.3,
       search rules,
       search rules,
-      omega (arith, i.6, c.in-Ok.ensures.calls.replies),
-      c.in-Ok.ensures.calls.failures ∙ i.7,
-      λ s h. c.piece.ensures.since s (i.8 s h),
-      omega (arith, i.9, c.in-Ok.ensures.calls.turns),
+      piece_behind _ _ _ i.6 c.in-Ok.ensures.calls.replies c.in-Ok.ensures.calls.turns c.in-Ok.ensures.calls.failures,
+      λ s h. c.piece.ensures.since s (i.7 s h),
     )

@@ -7,7 +7,7 @@ use Rattle.dav_fetch.proofs.Visiting.{pages_due}
 use Rattle.dav_fetch.proofs.walking.ask_due.Goals as goal
 
 pub returns-clause-err : goal.returns-clause-err
-returns-clause-err g c = pages_due c.args.dir.now c.in-Ok.path c.args.made c.args.most _ _ c.ask_page.result c.in-Ok.ensures.value (search rules) (search rules) c.ask_page.ensures.err
+returns-clause-err g c = pages_due c.args.dir.now c.in-Ok.path (record { made = c.args.made; most = c.args.most }) _ _ c.ask_page.result c.in-Ok.ensures.value (search rules) (search rules) c.ask_page.ensures.err
 
 pub returns-clause-ok : goal.returns-clause-ok
 returns-clause-ok g c =

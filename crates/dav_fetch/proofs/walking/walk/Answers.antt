@@ -2,6 +2,7 @@ use Rattle.std.proofs.Common.{◌≡◌, ◌+◌, ℕ, List, ◌∙◌, ◌∷�
 use Rattle.std.proofs.lemmas.List.{length-append}
 use Rattle.dav_fetch.specs.Fetching.{AtPage}
 use Rattle.dav_fetch.specs.Walk.{Visit, start, way_of}
+use Rattle.dav_fetch.proofs.Counting.{counts_then}
 use Rattle.dav_fetch.proofs.Ways.{due_first, pages_then, whole_then}
 use Rattle.dav_fetch.proofs.Whole.{lacks_stop}
 use Rattle.dav_fetch.proofs.walking.walk.Goals as goal
@@ -27,8 +28,14 @@ returns-in-Err-clause-walks g c =
       read = i.2;
       is_due = due_first c.loop-at.at c.loop-at.walked.dirs.items c.loop-at.walked.files.items (search rules);
       within = search rules;
-      at = subst (λ k. AtPage (slice_index_or c.loop-at.walked.dirs.items c.loop-at.at []) k c.args.most c.in-Err.error (g.P.Peer.state c.loop-at.peer) e.0 (g.P.Peer.state c.go_on.new.peer)) i.3 e.1;
+      at = subst (λ k. AtPage (slice_index_or c.loop-at.walked.dirs.items c.loop-at.at []) (record { made = k; most = c.args.most }) c.in-Err.error
+          (record { before = g.P.Peer.state c.loop-at.peer; visits = e.0; after = g.P.Peer.state c.go_on.new.peer })) i.3 e.1;
     }
+
+pub returns-in-Err-clause-within : goal.returns-in-Err-clause-within
+returns-in-Err-clause-within g c =
+    let i = c.loop-at.invariant in
+    counts_then _ _ _ i.7 c.in-Err.ensures.within (omega (arith, i.4))
 
 pub loop-at-preserved : goal.loop-at-preserved
 loop-at-preserved g c =
@@ -41,8 +48,6 @@ loop-at-preserved g c =
       c.in-Ok.ensures.made.1,
       omega (arith, c.in-Ok.ensures.inside),
       search rules,
-      omega (arith, i.7, c.in-Ok.ensures.replies, c.in-Ok.ensures.made.0),
-      c.in-Ok.ensures.failures ∙ i.8,
-      λ s h. c.go_on.ensures.since s (i.9 s h),
-      omega (arith, i.10, c.in-Ok.ensures.turns, c.in-Ok.ensures.made.0),
+      counts_then _ _ _ i.7 c.in-Ok.ensures.counts (omega (arith, c.in-Ok.ensures.made.0)),
+      λ s h. c.go_on.ensures.since s (i.8 s h),
     )
