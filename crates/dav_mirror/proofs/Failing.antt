@@ -11,7 +11,7 @@ use Rattle.dav_fetch.specs.declared.copied.Copied.{Copied}
 use Rattle.dav_fetch.specs.declared.copied.Kept.{Kept}
 use Rattle.dav_fetch.specs.declared.error.MirrorError.{MirrorError}
 use Rattle.dav_fetch.specs.declared.error.MirrorError.TheVariants.{Peer as PeerFailed, Refused, Short, Budget, NoMemory as LacksMemory}
-use Rattle.dav_fetch.specs.Fetching.{AtFile, AtPage, Fetched, FileEnds, Goes, Visited, WholeVisits, visits_of}
+use Rattle.dav_fetch.specs.Fetching.{AtFile, AtPage, Fetched, FileEnds, FilesKept, Goes, Requests, Stretch, Visited, WholeVisits, visits_of}
 use Rattle.dav_fetch.specs.Judging.{Use, gives, keeps, refuses, spoils}
 use Rattle.dav_fetch.specs.Peer.{PeerState}
 use Rattle.dav_fetch.specs.Walk.{Visit, Way}
@@ -33,28 +33,29 @@ file_rose path keeps visit s t e = absurd e
 file_rose path refuses visit s t e = absurd e
 file_rose path spoils visit s t e = absurd e
 
-files_rose : (left : List Names) (old got : List Kept) (made most : ℕ) (s t : PeerState) (last : List Visit) (new : List Kept) → AtFile left old got made most PeerFailed s last t new → Rose s.faults t.faults
-files_rose [] old got made most s t last new e = absurd e
-files_rose (path ∷ more) old got made most s t last new (inl e) = e.not.2
-files_rose (path ∷ more) old got made most s t last new (inr e) =
-    rose_before s.faults e.at.faults t.faults (visit_counts s e.at e.visit e.visited) (file_rose path e.worth e.visit e.at t e.ends)
+files_rose : (left : List Names) (files : FilesKept) (count : Requests) (last : Stretch) → AtFile left files count PeerFailed last → Rose last.before.faults last.after.faults
+files_rose [] files count last e = absurd e
+files_rose (path ∷ more) files count last (inl e) = e.not.2
+files_rose (path ∷ more) files count last (inr e) =
+    rose_before last.before.faults e.at.faults last.after.faults (visit_counts last.before e.at e.visit e.visited) (file_rose path e.worth e.visit e.at last.after e.ends)
 
-page_rose : (dir : Names) (made most : ℕ) (s t : PeerState) (last : List Visit) → AtPage dir made most PeerFailed s last t → Rose s.faults t.faults
-page_rose dir made most s t last (inl (none, e)) = e.2
-page_rose dir made most s t last (inr (visit, m, one, visited, is, e)) = rose_before s.faults m.faults t.faults (visit_counts s m visit visited) e.1
+page_rose : (dir : Names) (count : Requests) (last : Stretch) → AtPage dir count PeerFailed last → Rose last.before.faults last.after.faults
+page_rose dir count last (inl (none, e)) = e.2
+page_rose dir count last (inr (visit, m, one, visited, is, e)) = rose_before last.before.faults m.faults last.after.faults (visit_counts last.before m visit visited) e.1
 
 no_want : (e : MirrorError) → e ≡ PeerFailed → (◌≡◌ {A = Result Unit MirrorError} (Err e) (Err LacksMemory)) → ⊥
 no_want e is lacks = cc
 
-goes_rose : (due : List Names) (way : Way) (made most : ℕ) (old : Copied) (s t : PeerState) (rest : List Visit) (new : Copied) → Goes due way made most old s rest (Err PeerFailed) t new → Rose s.faults t.faults
-goes_rose [] way made most old s t rest new (inl e) =
-    rose_before s.faults e.mid.faults t.faults (visits_count s e.mid e.visits e.chain) (files_rose e.left old.files e.got (made + length e.visits) most e.mid t e.last new.files e.ends)
-goes_rose [] way made most old s t rest new (inr e) = absurd (no_want PeerFailed refl e.lacks)
-goes_rose (dir ∷ due) way made most old s t rest new e = page_rose dir made most s t rest e.0
+goes_rose : (due : List Names) (way : Way) (count : Requests) (old : Copied) (asks : Stretch) (new : Copied) → Goes due way count old asks (Err PeerFailed) new → Rose asks.before.faults asks.after.faults
+goes_rose [] way count old asks new (inl e) =
+    rose_before asks.before.faults e.mid.faults asks.after.faults (visits_count asks.before e.mid e.visits e.chain)
+    (files_rose e.left _ _ (record { before = e.mid; visits = e.last; after = asks.after }) e.ends)
+goes_rose [] way count old asks new (inr e) = absurd (no_want PeerFailed refl e.lacks)
+goes_rose (dir ∷ due) way count old asks new e = page_rose dir count asks e.0
 
 pub fetched_rose : (s t : PeerState) (old new : Copied) (most : ℕ) → Fetched s old most (Err PeerFailed) t new → Rose s.faults t.faults
 fetched_rose s t old new most f =
-    rose_before s.faults f.mid.faults t.faults (whole_count s f.mid f.pages f.chain) (goes_rose f.way.due f.way (length f.pages) most old f.mid t f.rest new f.goes)
+    rose_before s.faults f.mid.faults t.faults (whole_count s f.mid f.pages f.chain) (goes_rose f.way.due f.way _ old (record { before = f.mid; visits = f.rest; after = t }) new f.goes)
 
 -- the same of the disk, whose count the peer has
 pub disk_rose : (first last : PeerState) (before after : ℕ) → first.faults ≡ before → last.faults ≡ after → Rose first.faults last.faults → Rose before after
@@ -88,28 +89,28 @@ file_same names keeps visit s t e = absurd e
 file_same names refuses visit s t e = absurd e
 file_same names spoils visit s t e = absurd e
 
-file_broke : (left : List Names) (old got : List Kept) (made most : ℕ) (s t : PeerState) (last : List Visit) (new : List Kept) (path : WebPath) → AtFile left old got made most PeerFailed s last t new → t.path ≡ Some path → EndsAt path last
-file_broke [] old got made most s t last new path e named = absurd e
-file_broke (names ∷ more) old got made most s t last new path (inl e) named = absurd (none_named path t.path e.not.3 named)
-file_broke (names ∷ more) old got made most s t last new path (inr e) named =
-    ([], e.visit, e.one, visit_named s e.at t e.visit path e.visited (file_same names e.worth e.visit e.at t e.ends) named)
+file_broke : (left : List Names) (files : FilesKept) (count : Requests) (last : Stretch) (path : WebPath) → AtFile left files count PeerFailed last → last.after.path ≡ Some path → EndsAt path last.visits
+file_broke [] files count last path e named = absurd e
+file_broke (names ∷ more) files count last path (inl e) named = absurd (none_named path last.after.path e.not.3 named)
+file_broke (names ∷ more) files count last path (inr e) named =
+    ([], e.visit, e.one, visit_named last.before e.at last.after e.visit path e.visited (file_same names e.worth e.visit e.at last.after e.ends) named)
 
-page_broke : (dir : Names) (made most : ℕ) (s t : PeerState) (last : List Visit) (path : WebPath) → AtPage dir made most PeerFailed s last t → t.path ≡ Some path → EndsAt path last
-page_broke dir made most s t last path (inl (none, e)) named = absurd (none_named path t.path e.3 named)
-page_broke dir made most s t last path (inr (visit, m, one, visited, is, e)) named = ([], visit, one, visit_named s m t visit path visited e.2 named)
+page_broke : (dir : Names) (count : Requests) (last : Stretch) (path : WebPath) → AtPage dir count PeerFailed last → last.after.path ≡ Some path → EndsAt path last.visits
+page_broke dir count last path (inl (none, e)) named = absurd (none_named path last.after.path e.3 named)
+page_broke dir count last path (inr (visit, m, one, visited, is, e)) named = ([], visit, one, visit_named last.before m last.after visit path visited e.2 named)
 
 ends_behind : (path : WebPath) (front rest : List Visit) → EndsAt path rest → EndsAt path (front ++ rest)
 ends_behind path front rest (before, visit, are, to) = (front ++ before, visit, ap (λ l. front ++ l) are ∙ sym (append_assoc front before (visit ∷ [])), to)
 
-goes_broke : (due : List Names) (way : Way) (made most : ℕ) (old : Copied) (s t : PeerState) (rest : List Visit) (new : Copied) (path : WebPath) → Goes due way made most old s rest (Err PeerFailed) t new → t.path ≡ Some path → EndsAt path rest
-goes_broke [] way made most old s t rest new path (inl e) named =
-    subst (EndsAt path) (sym e.parts) (ends_behind path e.visits e.last (file_broke e.left old.files e.got (made + length e.visits) most e.mid t e.last new.files path e.ends named))
-goes_broke [] way made most old s t rest new path (inr e) named = absurd (no_want PeerFailed refl e.lacks)
-goes_broke (dir ∷ due) way made most old s t rest new path e named = page_broke dir made most s t rest path e.0 named
+goes_broke : (due : List Names) (way : Way) (count : Requests) (old : Copied) (asks : Stretch) (new : Copied) (path : WebPath) → Goes due way count old asks (Err PeerFailed) new → asks.after.path ≡ Some path → EndsAt path asks.visits
+goes_broke [] way count old asks new path (inl e) named =
+    subst (EndsAt path) (sym e.parts) (ends_behind path e.visits e.last (file_broke e.left _ _ (record { before = e.mid; visits = e.last; after = asks.after }) path e.ends named))
+goes_broke [] way count old asks new path (inr e) named = absurd (no_want PeerFailed refl e.lacks)
+goes_broke (dir ∷ due) way count old asks new path e named = page_broke dir count asks path e.0 named
 
 fetch_broke : (s t : PeerState) (old new : Copied) (most : ℕ) (path : WebPath) (f : Fetched s old most (Err PeerFailed) t new) → t.path ≡ Some path → BrokeAt path (visits_of f) t
 fetch_broke s t old new most path f named =
-    let ends = ends_behind path f.pages f.rest (goes_broke f.way.due f.way (length f.pages) most old f.mid t f.rest new path f.goes named) in
+    let ends = ends_behind path f.pages f.rest (goes_broke f.way.due f.way _ old (record { before = f.mid; visits = f.rest; after = t }) new path f.goes named) in
     record { before = ends.0; visit = ends.1; are = ends.2; to = ends.3; named = named }
 
 -- the same of an error that is known to be that
