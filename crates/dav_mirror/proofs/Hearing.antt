@@ -1,5 +1,5 @@
 -- What a fetch asks is heard.
-use Rattle.std.proofs.Common.{◌≡◌, ◌↔◌, ◌≤◌, List, [], Bool, true, false, Option, None, Some, IfSome, Ok, length, codes, sym, ap, subst, ◌∙◌}
+use Rattle.std.proofs.Common.{◌≡◌, List, [], false, Option, None, Some, IfSome, Ok, codes, sym, ap, ◌∙◌}
 use Rattle.http_uri.specs.declared.uri.Uri.{Uri}
 use Rattle.http_uri.specs.Uri.{uri_path}
 use Rattle.dav_io.specs.declared.fields.Field.{Field}
@@ -8,7 +8,7 @@ use Rattle.dav_core.specs.Grammar.{parsed}
 use Rattle.dav_core.proofs.Back.{parsed_back}
 use Rattle.dav_model.specs.Conditions.{Fields}
 use Rattle.dav_model.specs.Gates.{has_field}
-use Rattle.dav_fetch.specs.Peer.{Carries, IsAskable, links_most}
+use Rattle.dav_fetch.specs.Peer.{Carries, IsAskable}
 use Rattle.dav_mirror.specs.Asking.{CanBeTarget, IsTarget}
 use Rattle.dav_mirror.proofs.Askable.{askable_none}
 use Rattle.dav_mirror.proofs.Fields.{none_carried}
@@ -18,10 +18,11 @@ target_is : (path : WebPath) (o : Option Uri) (u : Uri) → o ≡ Some u → IsT
 target_is path None u e h = cc
 target_is path (Some x) u e h = let same : x ≡ u = cc in ap uri_path (sym same) ∙ h
 
-pub all_heard : (path : WebPath) (asked said : List Field) (o : Option Uri) (u : Uri) (p : Option Fields) (m : Fields) (heard : Bool) → IsAskable path asked → length (link_of (shown path)) ≤ links_most → said ≡ asked
-    → o ≡ Some u → (CanBeTarget path → IsTarget path o) → p ≡ Some m → IfSome p (λ (headers : Fields). Carries said headers)
-    → (heard ≡ true ↔ ((parsed (uri_path u) [] ≡ Ok path) × (has_field m (codes "if") ≡ false))) → heard ≡ true
-all_heard path asked said o u p m heard askable short same some target there carried hears =
-    let link = target_is path o u some (target (record { is = askable.is; short = short })) in
-    let carries : Carries asked m = subst (λ l. Carries l m) same (if_some (λ (headers : Fields). Carries said headers) p m there carried) in
-    hears.1 (ap (λ text. parsed text []) link ∙ parsed_back path [] askable.is (sym askable.prefix), none_carried asked m (codes "if") carries (askable_none path asked askable))
+-- The target of its request leads back to the path.
+pub leads_back : (path : WebPath) (o : Option Uri) (u : Uri) → CanBeTarget path → path.prefix ≡ [] → o ≡ Some u → IsTarget path o → parsed (uri_path u) [] ≡ Ok path
+leads_back path o u can none some target = ap (λ text. parsed text []) (target_is path o u some target) ∙ parsed_back path [] can.is (sym none)
+
+-- None of its fields is one that isn't heard.
+pub none_hinders : (path : WebPath) (asked : List Field) (p : Option Fields) (m : Fields) → IsAskable path asked → p ≡ Some m → IfSome p (λ (headers : Fields). Carries asked headers) → has_field m (codes "if") ≡ false
+none_hinders path asked p m askable there carried =
+    none_carried asked m (codes "if") (if_some (λ (headers : Fields). Carries asked headers) p m there carried) (askable_none path asked askable)

@@ -1,5 +1,5 @@
 -- Paths that are one.
-use Rattle.std.proofs.Common.{◌≡◌, ◌↔◌, ◌∙◌, Bool, true, false, cond, not, Result, Ok, Err, refl, sym, ap, ap₂, true≢false}
+use Rattle.std.proofs.Common.{◌≡◌, ◌↔◌, ◌∙◌, Bool, true, false, cond, not, Result, Ok, Err, refl, sym, ap, true≢false}
 use Rattle.dav_core.specs.declared.parse_error.ParseError.{ParseError}
 use Rattle.dav_core.specs.DavPath.{WebPath}
 use Rattle.dav_core.specs.Path.{Names, same_names}
@@ -17,15 +17,15 @@ parts_same a b p n s =
     ap (λ (x : Names). record a { prefix = x }) p ∙ ap (λ (x : Names). record a { prefix = b.prefix; names = x }) n
     ∙ ap (λ (x : Bool). record a { prefix = b.prefix; names = b.names; slash = x }) s
 
-pub same_paths : (a b : WebPath) (p q m n : Names) (x y z : Bool) → p ≡ a.prefix → q ≡ b.prefix → x ≡ same_names p q → x ≡ true → m ≡ a.names → n ≡ b.names → y ≡ same_names m n → y ≡ true
-    → z ≡ cond a.slash b.slash (not b.slash) → z ≡ true → a ≡ b
-same_paths a b p q m n x y z pa qb px xt ma nb my yt zs zt =
-    parts_same a b (sym pa ∙ names_same p q (sym px ∙ xt) ∙ qb) (sym ma ∙ names_same m n (sym my ∙ yt) ∙ nb) (same_end a.slash b.slash (sym zs ∙ zt))
+pub same_paths : (a b : WebPath) (ends : Bool) → a.prefix ≡ b.prefix → a.names ≡ b.names → ends ≡ cond a.slash b.slash (not b.slash) → ends ≡ true → a ≡ b
+same_paths a b ends prefix names is told = parts_same a b prefix names (same_end a.slash b.slash (sym is ∙ told))
 
--- names that are told apart aren't the same
-pub never_same : (p q m n : Names) (x : Bool) → m ≡ p → n ≡ q → x ≡ same_names m n → x ≡ false → p ≡ q → ⊥
-never_same p q m n x a b is apart e =
-    true≢false (sym (names_refl q) ∙ sym (ap₂ same_names (a ∙ e) b) ∙ sym is ∙ apart)
+-- names that are told to be the same are, and those that are told apart aren't
+pub told_same : (p q : Names) (same : Bool) → same ≡ same_names p q → same ≡ true → p ≡ q
+told_same p q same is told = names_same p q (sym is ∙ told)
+
+pub told_apart : (p q : Names) (same : Bool) → same ≡ same_names p q → same ≡ false → p ≡ q → ⊥
+told_apart p q same is told e = true≢false (sym (names_refl q) ∙ sym (ap (λ n. same_names n q) e) ∙ sym is ∙ told)
 
 pub end_same : (a b : WebPath) (z : Bool) → z ≡ cond a.slash b.slash (not b.slash) → a ≡ b → z ≡ true
 end_same a b z is e = is ∙ ap (λ (x : WebPath). cond x.slash b.slash (not b.slash)) e ∙ by b.slash
