@@ -21,7 +21,7 @@ use Rattle.dav_readcache.specs.declared.cached.Content.{Content}
 use Rattle.dav_readcache.specs.declared.cached.Reading.{Reading}
 use Rattle.dav_readcache.specs.declared.keeping.Wanted.{Wanted}
 use Rattle.dav_readcache.specs.declared.store.ReadCache.{ReadCache}
-use Rattle.dav_readcache.specs.Cached.{AfterSaid, AfterTag, IsLeft, Steps, StepsWith, content_in, content_of, is_held, seen_as, seen_reading, shown}
+use Rattle.dav_readcache.specs.Cached.{AfterSaid, AfterTag, IsLeft, ReadAt, Steps, StepsOf, StepsWith, content_in, content_of, is_held, read_by, seen_as, seen_reading, shown}
 use Rattle.dav_readcache.specs.Opening.{AfterOpen, EndsOpen, Fetches, FrontIn, Holds, HoldsBy, HoldsWanted, Keeps, KeepsWhere, Opening, Starves, holding, says_tag, unheld, wanted_by, wanted_of}
 use Rattle.dav_readcache.specs.Shelf.{Pairs, ShelfState, bytes_for}
 use Rattle.dav_readcache.specs.Sound.{AreFaithful, AreFilesTold, AreSound, AreSoundIn, In, IsFileIn, IsHeldSound, IsSound, IsSoundIn, OpensTold}
@@ -141,25 +141,27 @@ none_left a b none = λ c is. cc
 same_left : (a b : Option Content) → b ≡ a → IsLeft a b
 same_left a b e = λ c is. sym e ∙ is
 
-tag_left : (b : Bool) (once : Type 0) (r q : Reading) (m t : DiskState) (buffer : List ℕ) (result : Result ℕ FsError) → AfterTag b once r m buffer result t q → IsLeft r.content q.content
-tag_left true once r q m t buffer result (n, is, disk, same, copies) = same_left r.content q.content same
-tag_left false once r q m t buffer result (asks, none) = none_left r.content q.content none
+module _ {F : Type 0} (view : FileView F) where
+  tag_left : (b : Bool) (p q : ReadAt F Reading) (buffer : List ℕ) (result : Result ℕ FsError) → AfterTag view b p buffer result q → IsLeft p.reading.content q.reading.content
+  tag_left true p q buffer result (n, is, disk, same, copies) = same_left p.reading.content q.reading.content same
+  tag_left false p q buffer result (asks, none) = none_left p.reading.content q.reading.content none
 
-said_left : (said : Result Info FsError) (once : Type 0) (r q : Reading) (m t : DiskState) (buffer : List ℕ) (result : Result ℕ FsError) → AfterSaid once r said m buffer result t q → IsLeft r.content q.content
-said_left (Err e) once r q m t buffer result (is, disk, same) = same_left r.content q.content (ap (λ (x : Reading). x.content) same)
-said_left (Ok info) once r q m t buffer result after = tag_left (is_held r.content info) once r q m t buffer result after
+  said_left : (said : Result Info FsError) (p q : ReadAt F Reading) (buffer : List ℕ) (result : Result ℕ FsError) → AfterSaid view said p buffer result q → IsLeft p.reading.content q.reading.content
+  said_left (Err e) p q buffer result (is, disk, same) = same_left p.reading.content q.reading.content (ap (λ (x : Reading). x.content) same)
+  said_left (Ok info) p q buffer result after = tag_left (is_held p.reading.content info) p q buffer result after
 
-with_left : (content : Option Content) (once : Type 0) (h : ℕ) (r : Reading) (seen : Option Seen) (s : DiskState) (buffer : List ℕ) (result : Result ℕ FsError) (t : DiskState) (q : Reading)
-    → StepsWith content once h r seen s buffer result t q → IsLeft r.content q.content
-with_left None once h r seen s buffer result t q (asks, none) = none_left r.content q.content none
-with_left (Some c) once h r seen s buffer result t q says = said_left says.said once r q says.disk t buffer result says.after
+  with_left : (content : Option Content) (p q : ReadAt F Reading) (buffer : List ℕ) (result : Result ℕ FsError) → StepsWith view content p buffer result q → IsLeft p.reading.content q.reading.content
+  with_left None p q buffer result (asks, none) = none_left p.reading.content q.reading.content none
+  with_left (Some c) p q buffer result says = said_left says.said (record p { disk = says.disk }) q buffer result says.after
 
--- A read leaves what is held, or drops it.
-pub steps_left : (once : Type 0) (h : ℕ) (old : Option Reading) (seen : Option Seen) (s : DiskState) (buffer : List ℕ) (result : Result ℕ FsError) (t : DiskState) (new : Option Reading)
-    → Steps once h old seen s buffer result t new → IsLeft (content_in old) (content_in new)
-steps_left once h None seen s buffer result t new (asks, same) = same_left None (content_in new) (ap content_in same)
-steps_left once h (Some r) seen s buffer result t new (g, same, steps) = λ c is.
-    with_left r.content once h r seen s buffer result t g steps c (sym (ap content_in same) ∙ is)
+  of_left : (old : Option Reading) (p q : ReadAt F (Option Reading)) (buffer : List ℕ) (result : Result ℕ FsError) → StepsOf view old p buffer result q → IsLeft (content_in old) (content_in q.reading)
+  of_left None p q buffer result (asks, same) = same_left None (content_in q.reading) (ap content_in same)
+  of_left (Some r) p q buffer result (g, same, steps) = λ c is.
+      with_left r.content (read_by r p) (read_by g q) buffer result steps c (sym (ap content_in same) ∙ is)
+
+  -- A read leaves what is held, or drops it.
+  pub steps_left : (p q : ReadAt F (Option Reading)) (buffer : List ℕ) (result : Result ℕ FsError) → Steps view p buffer result q → IsLeft (content_in p.reading) (content_in q.reading)
+  steps_left p q buffer result steps = of_left p.reading p q buffer result steps
 
 -- ---- an open file
 

@@ -176,48 +176,64 @@ AsksOn None result s t = AsksOnce s t
 AsksOn (Some place) (Ok n) s t = AsksTwice s t
 AsksOn (Some place) (Err e) s t = AsksOnce s t ⊎ AsksTwice s t
 
--- It is read without a content.
-abbrev pub ReadsOn : Type 0 → Reading → DiskState → Result ℕ FsError → DiskState → Reading → Type 0
-ReadsOn once r s result t q = (once → AsksOn r.pending result s t) × (q.content ≡ None)
-
--- Where metadata has the tag of the content that is held, the bytes come from that, and nothing more is asked. Else the
--- content is dropped.
-abbrev pub AfterTag : Bool → Type 0 → Reading → DiskState → List ℕ → Result ℕ FsError → DiskState → Reading → Type 0
-AfterTag true once r m buffer result t q = (n : ℕ) × (result ≡ Ok n) × (t ≡ m) × (q.content ≡ r.content)
-    × Copies r buffer n q
-AfterTag false once r m buffer result t q = ReadsOn once r m result t q
-
--- Where metadata is refused, that is the answer.
-abbrev pub AfterSaid : Type 0 → Reading → Result Info FsError → DiskState → List ℕ → Result ℕ FsError → DiskState
-    → Reading → Type 0
-AfterSaid once r (Err e) m buffer result t q = (result ≡ Err e) × (t ≡ m) × (q ≡ r)
-AfterSaid once r (Ok info) m buffer result t q = AfterTag (is_held r.content info) once r m buffer result t q
-
--- Where a content is held, metadata is asked first.
-pub record SaysFirst (once : Type 0) (h : ℕ) (r : Reading) (seen : Option Seen) (s : DiskState) (buffer : List ℕ)
-    (result : Result ℕ FsError) (t : DiskState) (q : Reading) : Type 0 where
-  pub said : Result Info FsError
+-- where a read stands: the store's file inside, how it is read, and the disk
+pub record ReadAt (F R : Type 0) : Type 0 where
+  pub file : F
+  pub reading : R
   pub disk : DiskState
-  pub seen_then : Option Seen
-  pub says : FileSays s h seen said disk seen_then
-  pub after : AfterSaid once r said disk buffer result t q
 
-abbrev pub StepsWith : Option Content → Type 0 → ℕ → Reading → Option Seen → DiskState → List ℕ → Result ℕ FsError
-    → DiskState → Reading → Type 0
-StepsWith None once h r seen s buffer result t q = ReadsOn once r s result t q
-StepsWith (Some c) once h r seen s buffer result t q = SaysFirst once h r seen s buffer result t q
+-- where a read of a cached file stands
+abbrev pub read_at : {F : Type 0} → CachedFile F → DiskState → ReadAt F (Option Reading)
+read_at f s = record { file = f.file; reading = f.reading; disk = s }
 
--- What a read asks in order, in every run, and what is held after it.
-abbrev pub StepsBy : Type 0 → ℕ → Reading → Option Seen → DiskState → List ℕ → Result ℕ FsError → DiskState → Reading
-    → Type 0
-StepsBy once h r seen s buffer result t q = StepsWith r.content once h r seen s buffer result t q
+-- how it is read, where that is known to be by this reading
+abbrev pub read_by : {F : Type 0} → Reading → ReadAt F (Option Reading) → ReadAt F Reading
+read_by r p = record { file = p.file; reading = r; disk = p.disk }
 
--- the same of a cached file: without a reading its calls pass on
-abbrev pub Steps : Type 0 → ℕ → Option Reading → Option Seen → DiskState → List ℕ → Result ℕ FsError → DiskState
-    → Option Reading → Type 0
-Steps once h None seen s buffer result t q = (once → AsksOnce s t) × (q ≡ None)
-Steps once h (Some r) seen s buffer result t q = (g : Reading) × (q ≡ Some g)
-    × StepsBy once h r seen s buffer result t g
+-- A read goes from `p` to `q`: into a buffer, which is told as it was filled, with this result.
+module _ {F : Type 0} (view : FileView F) where
+  -- It is read without a content.
+  abbrev pub ReadsOn : ReadAt F Reading → Result ℕ FsError → ReadAt F Reading → Type 0
+  ReadsOn p result q = (view.asks_once → AsksOn p.reading.pending result p.disk q.disk) × (q.reading.content ≡ None)
+
+  -- Where metadata has the tag of the content that is held, the bytes come from that, and nothing more is asked. Else
+  -- the content is dropped.
+  abbrev pub AfterTag : Bool → ReadAt F Reading → List ℕ → Result ℕ FsError → ReadAt F Reading → Type 0
+  AfterTag true p buffer result q = (n : ℕ) × (result ≡ Ok n) × (q.disk ≡ p.disk)
+      × (q.reading.content ≡ p.reading.content) × Copies p.reading buffer n q.reading
+  AfterTag false p buffer result q = ReadsOn p result q
+
+  -- Where metadata is refused, that is the answer.
+  abbrev pub AfterSaid : Result Info FsError → ReadAt F Reading → List ℕ → Result ℕ FsError → ReadAt F Reading → Type 0
+  AfterSaid (Err e) p buffer result q = (result ≡ Err e) × (q.disk ≡ p.disk) × (q.reading ≡ p.reading)
+  AfterSaid (Ok info) p buffer result q = AfterTag (is_held p.reading.content info) p buffer result q
+
+  -- Where a content is held, metadata is asked first.
+  pub record SaysFirst (p : ReadAt F Reading) (buffer : List ℕ) (result : Result ℕ FsError) (q : ReadAt F Reading)
+      : Type 0 where
+    pub said : Result Info FsError
+    pub disk : DiskState
+    pub seen_then : Option Seen
+    pub says : FileSays p.disk (view.handle p.file) (view.seen p.file p.disk) said disk seen_then
+    pub after : AfterSaid said (record p { disk = disk }) buffer result q
+
+  abbrev pub StepsWith : Option Content → ReadAt F Reading → List ℕ → Result ℕ FsError → ReadAt F Reading → Type 0
+  StepsWith None p buffer result q = ReadsOn p result q
+  StepsWith (Some c) p buffer result q = SaysFirst p buffer result q
+
+  -- What a read asks in order, in every run, and what is held after it.
+  abbrev pub StepsBy : ReadAt F Reading → List ℕ → Result ℕ FsError → ReadAt F Reading → Type 0
+  StepsBy p buffer result q = StepsWith p.reading.content p buffer result q
+
+  -- the same of a cached file: without a reading its calls pass on
+  abbrev pub StepsOf : Option Reading → ReadAt F (Option Reading) → List ℕ → Result ℕ FsError
+      → ReadAt F (Option Reading) → Type 0
+  StepsOf None p buffer result q = (view.asks_once → AsksOnce p.disk q.disk) × (q.reading ≡ None)
+  StepsOf (Some r) p buffer result q = (g : Reading) × (q.reading ≡ Some g)
+      × StepsBy (read_by r p) buffer result (read_by g q)
+
+  abbrev pub Steps : ReadAt F (Option Reading) → List ℕ → Result ℕ FsError → ReadAt F (Option Reading) → Type 0
+  Steps p buffer result q = StepsOf p.reading p buffer result q
 
 -- the bytes at the front of a buffer, or want of memory for a value of their own
 abbrev pub GivesFront : List ℕ → Result ℕ FsError → Result (List ℕ) FsError → Type 0
@@ -225,11 +241,11 @@ GivesFront buffer (Ok n) result = (result ≡ Ok (take n buffer)) ⊎ (result �
 GivesFront buffer (Err e) result = result ≡ Err e
 
 -- Bytes are given by one read into a buffer of that length. Where memory for the buffer is refused, nothing is asked.
-abbrev pub GivesBySteps : Type 0 → ℕ → Option Reading → Option Seen → DiskState → ℕ → Result (List ℕ) FsError
-    → DiskState → Option Reading → Type 0
-GivesBySteps once h r seen s count result t q = ((result ≡ Err NoMemory) × (t ≡ s) × (q ≡ r))
-    ⊎ ((buffer : List ℕ) × (read : Result ℕ FsError) × (length buffer ≡ count) × Steps once h r seen s buffer read t q
-    × HitsBy r seen s buffer read t × GivesFront buffer read result)
+abbrev pub GivesBySteps : {F : Type 0} → FileView F → ReadAt F (Option Reading) → ℕ → Result (List ℕ) FsError
+    → ReadAt F (Option Reading) → Type 0
+GivesBySteps view p count result q = ((result ≡ Err NoMemory) × (q.disk ≡ p.disk) × (q.reading ≡ p.reading))
+    ⊎ ((buffer : List ℕ) × (read : Result ℕ FsError) × (length buffer ≡ count) × Steps view p buffer read q
+    × HitsBy p.reading (view.seen p.file p.disk) p.disk buffer read q.disk × GivesFront buffer read result)
 
 -- where a cached file is read next
 abbrev pub moved_to : ℕ → Option Reading → Option Reading

@@ -236,8 +236,9 @@ fn read_reading<D: Disk, F: DavFile<D>>(
         (seen_reading (Some reading.new) (F.view.seen file.new (D.state disk.new))) }
     ensures hit { IsHit reading.old (F.view.seen file.old (D.state disk.old)) (D.state disk.old) into.new result
         (D.state disk.new) }
-    ensures steps { StepsBy F.view.asks_once (F.view.handle file.old) reading.old
-        (F.view.seen file.old (D.state disk.old)) (D.state disk.old) into.new result (D.state disk.new) reading.new }
+    ensures steps { StepsBy F.view
+        (record { file = file.old; reading = reading.old; disk = D.state disk.old }) into.new result
+        (record { file = file.new; reading = reading.new; disk = D.state disk.new }) }
     ensures reads_from { F.view.reads_from file.new (D.state disk.new) }
     ensures known { IsKnown reading.new (F.view.seen file.new (D.state disk.new)) }
     ensures handle { F.view.handle file.new ≡ F.view.handle file.old }
@@ -255,7 +256,7 @@ fn read_reading<D: Disk, F: DavFile<D>>(
 }
 
 impl<D: Disk, F: DavFile<D>> DavFile<D> for CachedFile<F> {
-    ghost use Rattle.dav_readcache.specs.Cached.{becomes_by, GivesBySteps, HitsBy, MovesFree, Steps, cached_file, moved_to, reads_by, seen_by};
+    ghost use Rattle.dav_readcache.specs.Cached.{becomes_by, GivesBySteps, HitsBy, MovesFree, Steps, cached_file, moved_to, read_at, reads_by, seen_by};
     ghost use Rattle.dav_readcache.specs.CachedStays.{cached_reads_on, cached_stays};
     ghost use Rattle.dav_store.specs.Files.{FileGives, FileReads, FileSeeks};
 
@@ -304,9 +305,8 @@ impl<D: Disk, F: DavFile<D>> DavFile<D> for CachedFile<F> {
         ensures loan { D.loan disk.new ≡ D.loan disk.old }
         ensures hit { HitsBy self.old.reading (F.view.seen self.old.file (D.state disk.old)) (D.state disk.old) into.new
             result (D.state disk.new) }
-        ensures steps { Steps F.view.asks_once (F.view.handle self.old.file) self.old.reading
-            (F.view.seen self.old.file (D.state disk.old)) (D.state disk.old) into.new result (D.state disk.new)
-            self.new.reading }
+        ensures steps { Steps F.view (read_at self.old (D.state disk.old)) into.new result
+            (read_at self.new (D.state disk.new)) }
     {
         match &mut self.reading {
             Some(reading) => read_reading(&mut self.file, reading, disk, into),
@@ -326,9 +326,8 @@ impl<D: Disk, F: DavFile<D>> DavFile<D> for CachedFile<F> {
         ensures handle { F.view.handle self.new.file ≡ F.view.handle self.old.file }
         ensures becomes { becomes_by F.view self.old self.new }
         ensures loan { D.loan disk.new ≡ D.loan disk.old }
-        ensures steps { GivesBySteps F.view.asks_once (F.view.handle self.old.file) self.old.reading
-            (F.view.seen self.old.file (D.state disk.old)) (D.state disk.old) count result (D.state disk.new)
-            self.new.reading }
+        ensures steps { GivesBySteps F.view (read_at self.old (D.state disk.old)) count result
+            (read_at self.new (D.state disk.new)) }
     {
         let Ok(mut buffer) = vec![in alloc; 0u8; count] else {
             return Err(FsError::NoMemory);

@@ -15,7 +15,7 @@ ghost use Rattle.dav_local.specs.declared.fs.LocalFs.{LocalFs as Store};
 ghost use Rattle.dav_readcache.specs.declared.cached.CachedFile.{CachedFile as Held};
 ghost use Rattle.dav_readcache.specs.declared.cached.Content.{Content};
 ghost use Rattle.dav_readcache.specs.declared.store.ReadCache.{ReadCache as Cache};
-ghost use Rattle.dav_readcache.specs.Cached.{Steps, cached_file, content_of, shown};
+ghost use Rattle.dav_readcache.specs.Cached.{Steps, cached_file, content_of, read_at, shown};
 ghost use Rattle.dav_readcache.specs.Sound.{AreFaithful, AreFilesTold, AreSound, AreSoundIn, In, IsFileIn, IsHeldSound, IsSound, IsSoundIn, IsWorldThere, OpensTold, tag_in};
 ghost use Rattle.dav_readcache.specs.Store.{cache_listings, cache_view};
 
@@ -69,9 +69,8 @@ pub fn held_contents_are_sound<S: GuardedFileSystem<C>, C>(
 /// What a file holds after a read it held before. So what is sound stays so.
 pub fn reads_leave_contents<D: Disk, F: DavFile<D>>(_file: &CachedFile<F>)
     ensures { (s : DiskState) (buffer : List ℕ) (result : Result ℕ FsError) (t : DiskState) (after : Held F)
-        (c : Content) → Steps F.view.asks_once (F.view.handle _file.now.file) _file.now.reading
-        (F.view.seen _file.now.file s) s buffer result t after.reading → content_of after ≡ Some c
-        → content_of _file.now ≡ Some c }
+        (c : Content) → Steps F.view (read_at _file.now s) buffer result (read_at after t)
+        → content_of after ≡ Some c → content_of _file.now ≡ Some c }
 {}
 
 /// What a file holds after calls of its own, whichever and however many, it held before. So what is sound stays so.
