@@ -32,7 +32,7 @@ use Rattle.dav_upload.specs.Ends.{WritesAt, is_spoiled}
 use Rattle.dav_upload.specs.Names.{hidden_beside, is_hidden_path, is_taken}
 use Rattle.dav_upload.specs.Pieces.{upload_options}
 use Rattle.dav_upload.specs.Shown.{IsCommitted, IsHiddenIn, SameShown, StandsBeside}
-use Rattle.dav_upload.specs.Standing.{OthersOpen, StandsIn}
+use Rattle.dav_upload.specs.Standing.{OthersOpen, StandsIn, pending}
 use Rattle.dav_upload.specs.Steps.{Began, Committed, IsBeside, IsClear, Pieced, SameLinks, is_fault}
 use Rattle.dav_upload.specs.Takes.{TakesUploads}
 use Rattle.dav_upload.specs.Uploading.{AfterClose, AfterJudged, AfterJudging, AfterMove, Aborts, Begins, BeginsAs, Commits, Judges, PieceOn, WritesPiece, done_as, is_refused, opened_as, refused_by}
@@ -189,10 +189,10 @@ module _ {S C F : Type 0} (view : View S C F) (writes : Writes F) (c : C) (test 
   never_appends (Some l) how = rw (how l refl) refl
 
   pub pieced : (shown : ℕ → Bool) (u x : Upload F) (s t : S) (v w : World) (bytes pieces : List ℕ) (r : Result Unit UploadError) → (view.state s).told ≡ Some v → (view.state t).told ≡ Some w
-      → StandsIn shown (view.state s).live v u.hidden.names (view.file.handle u.file) u.broken pieces → WritesPiece view writes u bytes s r t x → Pieced shown view.file.handle (view.state t).live x pieces bytes v w
+      → StandsIn shown (view.state s).live v (pending view.file.handle u pieces) → WritesPiece view writes u bytes s r t x → Pieced shown (view.state t).live (pending view.file.handle x (pieces ++ bytes)) v w
   pieced shown u x s t v w bytes pieces r was now stands writes_piece = by u.broken refl writes_piece
     where
-      any_pieces : (broken : Bool) → u.broken ≡ broken → broken ≡ true → StandsIn shown (view.state s).live v u.hidden.names (view.file.handle u.file) u.broken (pieces ++ bytes)
+      any_pieces : (broken : Bool) → u.broken ≡ broken → broken ≡ true → StandsIn shown (view.state s).live v (pending view.file.handle u (pieces ++ bytes))
       any_pieces broken e f = record {
         lives = stands.lives;
         how = stands.how;
@@ -210,7 +210,7 @@ module _ {S C F : Type 0} (view : View S C F) (writes : Writes F) (c : C) (test 
       }
 
       by_result : (y : Result Unit FsError) (file : F) → u.broken ≡ false → WritesFile view writes s u.file bytes y t file → x ≡ record u { file = file; broken = is_refused y }
-          → Pieced shown view.file.handle (view.state t).live x pieces bytes v w
+          → Pieced shown (view.state t).live (pending view.file.handle x (pieces ++ bytes)) v w
       by_result y file whole writes_so is = by_answer y writes_so is
         where
           h : ℕ
@@ -230,38 +230,38 @@ module _ {S C F : Type 0} (view : View S C F) (writes : Writes F) (c : C) (test 
               told_pair (view.state s).told (view.state t).told _ v w (takes_all.writes_file s t u.file file bytes y so (never_appends ((view.state s).live h) stands.how)) was now stands.held stands.opens within
 
           there : (y : Result Unit FsError) (wrong : Bool) → WritesFile view writes s u.file bytes y t file → is_refused y ≡ wrong → x ≡ record u { file = file; broken = is_refused y } → SameShown v w → SameLinks v w
-              → StandsIn shown (view.state t).live w u.hidden.names h wrong (pieces ++ bytes) → Pieced shown view.file.handle (view.state t).live x pieces bytes v w
+              → StandsIn shown (view.state t).live w (record { hidden = u.hidden.names; handle = h; broken = wrong; pieces = pieces ++ bytes }) → Pieced shown (view.state t).live (pending view.file.handle x (pieces ++ bytes)) v w
           there y wrong so e is same links stands_now =
-              subst (λ z. Pieced shown view.file.handle (view.state t).live z pieces bytes v w) (sym is) (
+              subst (λ z. Pieced shown (view.state t).live (pending view.file.handle z (pieces ++ bytes)) v w) (sym is) (
                 same,
                 links,
-                subst (λ b. StandsIn shown (view.state t).live w u.hidden.names (view.file.handle file) b (pieces ++ bytes)) (sym e)
-                    (subst (λ k. StandsIn shown (view.state t).live w u.hidden.names k wrong (pieces ++ bytes)) (sym so.handle) stands_now),
+                subst (λ b. StandsIn shown (view.state t).live w (record { hidden = u.hidden.names; handle = view.file.handle file; broken = b; pieces = pieces ++ bytes })) (sym e)
+                    (subst (λ k. StandsIn shown (view.state t).live w (record { hidden = u.hidden.names; handle = k; broken = wrong; pieces = pieces ++ bytes })) (sym so.handle) stands_now),
               )
 
-          by_answer : (y : Result Unit FsError) → WritesFile view writes s u.file bytes y t file → x ≡ record u { file = file; broken = is_refused y } → Pieced shown view.file.handle (view.state t).live x pieces bytes v w
+          by_answer : (y : Result Unit FsError) → WritesFile view writes s u.file bytes y t file → x ≡ record u { file = file; broken = is_refused y } → Pieced shown (view.state t).live (pending view.file.handle x (pieces ++ bytes)) v w
           by_answer (Ok z) so is =
               let (edited, opens) = did (Ok z) so in
               let (all, place) = stands.whole whole in
               let text : written stands.held.place bytes (bytes_of v stands.held.number) ≡ pieces ++ bytes =
               ap (λ p. written p bytes (bytes_of v stands.held.number)) place ∙ (ap (written (length pieces) bytes) all ∙ written_behind bytes pieces) in
               there (Ok z) false so refl is (filled_unseen v w stands.held.number _ stands.unseen edited) (links_filled v w stands.held.number _ edited)
-              (written_stands shown h (view.state s).live (view.state t).live v w (others (Ok z) so) u.hidden.names h u.broken false pieces (pieces ++ bytes) stands
+              (written_stands shown h (view.state s).live (view.state t).live v w (others (Ok z) so) (pending view.file.handle u pieces) false (pieces ++ bytes) stands
               (record stands.held { place = stands.held.place + length bytes }) _ refl edited so.told.live opens refl
               (λ e. (text, ap (λ p. p + length bytes) place ∙ sym (length-append pieces bytes))))
           by_answer (Err e) so is =
               let (n, open_now, edited, opens, number) = did (Err e) so in
               there (Err e) true so refl is (filled_unseen v w stands.held.number _ stands.unseen edited) (links_filled v w stands.held.number _ edited)
-              (written_stands shown h (view.state s).live (view.state t).live v w (others (Err e) so) u.hidden.names h u.broken true pieces (pieces ++ bytes) stands open_now _ refl edited so.told.live opens number (λ f. cc))
+              (written_stands shown h (view.state s).live (view.state t).live v w (others (Err e) so) (pending view.file.handle u pieces) true (pieces ++ bytes) stands open_now _ refl edited so.told.live opens number (λ f. cc))
 
-      by : (b : Bool) → u.broken ≡ b → PieceOn view writes b u bytes s r t x → Pieced shown view.file.handle (view.state t).live x pieces bytes v w
+      by : (b : Bool) → u.broken ≡ b → PieceOn view writes b u bytes s r t x → Pieced shown (view.state t).live (pending view.file.handle x (pieces ++ bytes)) v w
       by true e (same, is, refused) =
           let world : v ≡ w = one_told (view.state s).told v w was (sym (ap (λ y. (view.state y).told) same) ∙ now) in
-          subst (λ z. Pieced shown view.file.handle (view.state t).live z pieces bytes v w) (sym is) (
+          subst (λ z. Pieced shown (view.state t).live (pending view.file.handle z (pieces ++ bytes)) v w) (sym is) (
             shown_same v w world,
             links_same v w world,
-            subst (λ y. StandsIn shown (view.state y).live w u.hidden.names (view.file.handle u.file) u.broken (pieces ++ bytes)) (sym same)
-                (subst (λ z. StandsIn shown (view.state s).live z u.hidden.names (view.file.handle u.file) u.broken (pieces ++ bytes)) world (any_pieces true e refl)),
+            subst (λ y. StandsIn shown (view.state y).live w (pending view.file.handle u (pieces ++ bytes))) (sym same)
+                (subst (λ z. StandsIn shown (view.state s).live z (pending view.file.handle u (pieces ++ bytes))) world (any_pieces true e refl)),
           )
       by false e (y, file, writes_so, is, answer) = by_result y file e writes_so is
 
@@ -279,7 +279,7 @@ module _ {S C F : Type 0} (view : View S C F) (writes : Writes F) (c : C) (test 
       ]
 
   module _ (shown : ℕ → Bool) (u : Upload F) (s t : S) (v w : World) (pieces : List ℕ) (was : (view.state s).told ≡ Some v) (now : (view.state t).told ≡ Some w)
-      (stands : StandsIn shown (view.state s).live v u.hidden.names (view.file.handle u.file) u.broken pieces) (p : plain s) where
+      (stands : StandsIn shown (view.state s).live v (pending view.file.handle u pieces)) (p : plain s) where
     -- the world where the file was closed, or later, before anything was changed
     record Waits (m : S) : Type 0 where
       pub world : World

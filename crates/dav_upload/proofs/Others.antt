@@ -1,5 +1,5 @@
 -- What the steps of an upload leave to those who read, and to other uploads.
-use Rattle.std.proofs.Common.{◌≡◌, ◌≢◌, ◌≤◌, ◌+◌, inr, ℕ, List, [], Bool, true, false, Option, None, Some, sym, ap, subst, ◌∙◌, arith}
+use Rattle.std.proofs.Common.{◌≡◌, ◌≢◌, ◌≤◌, ◌+◌, inr, ℕ, List, Bool, true, Option, None, Some, refl, sym, ap, subst, ◌∙◌, arith}
 use Rattle.std.specs.Option.{option_map}
 use Rattle.dav_core.specs.declared.tree.Row.{Row}
 use Rattle.dav_core.specs.Disk.{DiskState, Live}
@@ -10,7 +10,7 @@ use Rattle.dav_store.specs.Frames.{KeepsOpen, KeepsOpenBut}
 use Rattle.dav_upload.specs.Names.{is_hidden_path}
 use Rattle.dav_upload.specs.Others.{IsNot, LeavesOthers}
 use Rattle.dav_upload.specs.Shown.{IsUnseen, SameShown}
-use Rattle.dav_upload.specs.Standing.{OthersOpen, StandsIn}
+use Rattle.dav_upload.specs.Standing.{OthersOpen, Pending, StandsIn}
 use Rattle.dav_upload.proofs.Beside.{below_greatest}
 use Rattle.dav_upload.proofs.Chains.{told_pair}
 use Rattle.dav_upload.proofs.Kept.{unseen_same}
@@ -54,34 +54,35 @@ module _ (shown : ℕ → Bool) (live then : ℕ → Option Live) (v w : World) 
         let still : w.opens k ≡ Some o = frame.opens k l ne alive ∙ opens in
         (frame.lives k ne ∙ alive, still, λ counts. (leaves.bytes o.number (of counts) (inr (k, ap (option_map (λ (x : OpenFile). x.number)) still))).1)
 
-    pub upload_left : (hidden : Names) (h : ℕ) (broken : Bool) (pieces : List ℕ) → other hidden → (s : StandsIn shown live v hidden h broken pieces) → h ≢ own → IsUnseen w s.held.number
-        → ((l : Live) (o : OpenFile) → shown own ≡ true → then own ≡ Some l → w.opens own ≡ Some o → o.number ≢ s.held.number) → StandsIn shown then w hidden h broken pieces
-    upload_left hidden h broken pieces is_other s ne unseen fresh =
-        other_stands shown own live then v w frame hidden h broken pieces s ne (leaves.rows hidden is_other) (λ was. unseen)
-        (λ holds. (leaves.bytes s.held.number (subst P s.number (of_row hidden s.row is_other s.at)) holds).1) fresh
+    pub upload_left : (u : Pending) → other u.hidden → (s : StandsIn shown live v u) → u.handle ≢ own → IsUnseen w s.held.number
+        → ((l : Live) (o : OpenFile) → shown own ≡ true → then own ≡ Some l → w.opens own ≡ Some o → o.number ≢ s.held.number) → StandsIn shown then w u
+    upload_left u is_other s ne unseen fresh =
+        other_stands shown own live then v w frame u s ne (leaves.rows u.hidden is_other) (λ was. unseen)
+        (λ holds. (leaves.bytes s.held.number (subst P s.number (of_row u.hidden s.row is_other s.at)) holds).1) fresh
 
     -- the upload of the step stands, so that no other has its number
-    pub fresh_from : IsWorld w → (path : Names) (bad : Bool) (all : List ℕ) → StandsIn shown then w path own bad all → (hidden : Names) (h : ℕ) (broken : Bool) (pieces : List ℕ) → other hidden → hidden ≢ path
-        → (s : StandsIn shown live v hidden h broken pieces) → (l : Live) (o : OpenFile) → shown own ≡ true → then own ≡ Some l → w.opens own ≡ Some o → o.number ≢ s.held.number
-    fresh_from now path bad all n hidden h broken pieces is_other ne s l o counts is_live opens e =
-        let (row, at, kind, number) = leaves.rows hidden is_other s.row s.at in
-        let same : Some n.held ≡ Some o = sym n.opens ∙ opens in
+    pub fresh_from : IsWorld w → (mine : Pending) → mine.handle ≡ own → StandsIn shown then w mine → (u : Pending) → other u.hidden → u.hidden ≢ mine.hidden
+        → (s : StandsIn shown live v u) → (l : Live) (o : OpenFile) → shown own ≡ true → then own ≡ Some l → w.opens own ≡ Some o → o.number ≢ s.held.number
+    fresh_from now mine owns n u is_other ne s l o counts is_live opens e =
+        let (row, at, kind, number) = leaves.rows u.hidden is_other s.row s.at in
+        let same : Some n.held ≡ Some o = sym n.opens ∙ (ap w.opens owns ∙ opens) in
         let here : n.held ≡ o = cc in
-        ne (one_path w now hidden path row n.row at n.at (number ∙ (s.number ∙ (sym e ∙ (ap (λ (x : OpenFile). x.number) (sym here) ∙ sym n.number)))))
+        ne (one_path w now u.hidden mine.hidden row n.row at n.at (number ∙ (s.number ∙ (sym e ∙ (ap (λ (x : OpenFile). x.number) (sym here) ∙ sym n.number)))))
 
   -- Nothing was opened or closed.
   pub all_left : ((own : ℕ) → OthersOpen own live then v w) → SameShown v w → ((k : ℕ) (l : Live) (o : OpenFile) → live k ≡ Some l → v.opens k ≡ Some o → P o.number) → LeavesOthers shown None other live then v w
   all_left frames same of_body = record {
     files = file_left;
     bodies = λ k l o ne alive opens. body_left (k + 1) (frames (k + 1)) k l o (λ e. omega (arith, e)) (λ counts. of_body k l o alive opens) alive opens;
-    uploads = λ hidden h broken pieces is_other s.
-        upload_left (h + 1) (frames (h + 1)) hidden h broken pieces is_other s (λ e. omega (arith, e)) (unseen_same v w s.held.number same s.unseen)
+    uploads = λ u is_other s.
+        (let h = u.handle in
+        upload_left (h + 1) (frames (h + 1)) u is_other s (λ e. omega (arith, e)) (unseen_same v w s.held.number same s.unseen)
         (λ l o counts is_live opens e.
         (let frame = frames (h + 2) in
         let ne : h + 1 ≢ h + 2 = λ f. omega (arith, f) in
         let was : live (h + 1) ≡ Some l = sym (frame.lives (h + 1) ne) ∙ is_live in
         let back : h + 1 ≡ h = s.apart (h + 1) l o counts was (sym (frame.opens (h + 1) l ne was) ∙ opens) e in
-        omega (arith, back)));
+        omega (arith, back))));
   }
 
 -- ---- calls that change nothing that stands
@@ -102,67 +103,69 @@ pub not_own : (own k : ℕ) → ◌≢◌ {A = Option ℕ} (Some own) (Some k) �
 not_own own k ne e = ne (ap (λ n. Some n) (sym e))
 
 -- an upload with another hidden path has another number, and another handle
-pub other_number : (shown : ℕ → Bool) (v : World) → IsWorld v → (live : ℕ → Option Live) (p q : Names) (h k : ℕ) (a b : Bool) (x y : List ℕ) → (m : StandsIn shown live v p h a x) → (n : StandsIn shown live v q k b y) → q ≢ p → n.held.number ≢ m.held.number
-other_number shown v is live p q h k a b x y m n ne e = ne (one_path v is q p n.row m.row n.at m.at (n.number ∙ (e ∙ sym m.number)))
+pub other_number : (shown : ℕ → Bool) (v : World) → IsWorld v → (live : ℕ → Option Live) (a b : Pending) → (m : StandsIn shown live v a) → (n : StandsIn shown live v b) → b.hidden ≢ a.hidden → n.held.number ≢ m.held.number
+other_number shown v is live a b m n ne e = ne (one_path v is b.hidden a.hidden n.row m.row n.at m.at (n.number ∙ (e ∙ sym m.number)))
 
-pub other_handle : (shown : ℕ → Bool) (v : World) → IsWorld v → (live : ℕ → Option Live) (p q : Names) (h k : ℕ) (a b : Bool) (x y : List ℕ) → StandsIn shown live v p h a x → StandsIn shown live v q k b y → q ≢ p → k ≢ h
-other_handle shown v is live p q h k a b x y m n ne e =
+pub other_handle : (shown : ℕ → Bool) (v : World) → IsWorld v → (live : ℕ → Option Live) (a b : Pending) → StandsIn shown live v a → StandsIn shown live v b → b.hidden ≢ a.hidden → b.handle ≢ a.handle
+other_handle shown v is live a b m n ne e =
     let same : Some n.held ≡ Some m.held = sym n.opens ∙ (ap v.opens e ∙ m.opens) in
     let here : n.held ≡ m.held = cc in
-    other_number shown v is live p q h k a b x y m n ne (ap (λ (o : OpenFile). o.number) here)
+    other_number shown v is live a b m n ne (ap (λ (o : OpenFile). o.number) here)
 
 -- ---- the three ways of a step's own upload
 
-module _ (shown : ℕ → Bool) (s t : DiskState) (v w : World) (was : s.told ≡ Some v) (now : t.told ≡ Some w) (is : IsWorld v) (path : Names) (h : ℕ) (keeps : KeepsOpenBut h s t) where
-  frame : OthersOpen h s.live t.live v w
-  frame = frame_but h s t v w was now keeps
+module _ (shown : ℕ → Bool) (s t : DiskState) (v w : World) (was : s.told ≡ Some v) (now : t.told ≡ Some w) (is : IsWorld v) (own : Pending) (keeps : KeepsOpenBut own.handle s t) where
+  frame : OthersOpen own.handle s.live t.live v w
+  frame = frame_but own.handle s t v w was now keeps
 
   -- It began.
-  pub new_left : Leaves (λ n. n ≤ v.greatest) (IsNot path) v w → s.live h ≡ None → SameShown v w → IsWorld w → StandsIn shown t.live w path h false [] → LeavesOthers shown None (IsNot path) s.live t.live v w
+  pub new_left : Leaves (λ n. n ≤ v.greatest) (IsNot own.hidden) v w → s.live own.handle ≡ None → SameShown v w → IsWorld w → StandsIn shown t.live w own → LeavesOthers shown None (IsNot own.hidden) s.live t.live v w
   new_left leaves fresh same is_now stands = record {
-    files = file_left shown s.live t.live v w is (λ n. n ≤ v.greatest) (IsNot path) leaves of_row;
-    bodies = λ k l o ne alive opens. body_left shown s.live t.live v w is (λ n. n ≤ v.greatest) (IsNot path) leaves of_row h frame k l o (dead k l alive) (λ counts. is.given.opens k o opens) alive opens;
-    uploads = λ hidden k broken pieces ne other.
-        (let away : k ≢ h = λ e. (let (l, alive) = some_of (s.live k) other.lives in dead k l alive e) in
-        upload_left shown s.live t.live v w is (λ n. n ≤ v.greatest) (IsNot path) leaves of_row h frame hidden k broken pieces ne other away (unseen_same v w other.held.number same other.unseen)
-        (fresh_from shown s.live t.live v w is (λ n. n ≤ v.greatest) (IsNot path) leaves of_row h frame is_now path false [] stands hidden k broken pieces ne ne other));
+    files = file_left shown s.live t.live v w is (λ n. n ≤ v.greatest) (IsNot own.hidden) leaves of_row;
+    bodies = λ k l o ne alive opens.
+        body_left shown s.live t.live v w is (λ n. n ≤ v.greatest) (IsNot own.hidden) leaves of_row own.handle frame k l o (dead k l alive) (λ counts. is.given.opens k o opens) alive opens;
+    uploads = λ u ne other.
+        (let away : u.handle ≢ own.handle = λ e. (let (l, alive) = some_of (s.live u.handle) other.lives in dead u.handle l alive e) in
+        upload_left shown s.live t.live v w is (λ n. n ≤ v.greatest) (IsNot own.hidden) leaves of_row own.handle frame u ne other away (unseen_same v w other.held.number same other.unseen)
+        (fresh_from shown s.live t.live v w is (λ n. n ≤ v.greatest) (IsNot own.hidden) leaves of_row own.handle frame is_now own refl stands u ne ne other));
   }
     where
-      of_row : (x : Names) (row : Row) → IsNot path x → row_at v.tree x ≡ Some row → row.number ≤ v.greatest
+      of_row : (x : Names) (row : Row) → IsNot own.hidden x → row_at v.tree x ≡ Some row → row.number ≤ v.greatest
       of_row x row ne at = below_greatest v is x row at
 
-      dead : (k : ℕ) (l : Live) → s.live k ≡ Some l → k ≢ h
+      dead : (k : ℕ) (l : Live) → s.live k ≡ Some l → k ≢ own.handle
       dead k l alive e = let g : Some l ≡ None = sym alive ∙ (ap s.live e ∙ fresh) in cc
 
-  module _ (bad : Bool) (pieces : List ℕ) (stood : StandsIn shown s.live v path h bad pieces) where
+  module _ (stood : StandsIn shown s.live v own) where
     -- Its file was written.
-    pub written_left : (wrong : Bool) (all : List ℕ) → Leaves (λ n. n ≢ stood.held.number) (IsNot path) v w → SameShown v w → IsWorld w → StandsIn shown t.live w path h wrong all → LeavesOthers shown (Some h) (IsNot path) s.live t.live v w
+    pub written_left : (wrong : Bool) (all : List ℕ) → Leaves (λ n. n ≢ stood.held.number) (IsNot own.hidden) v w → SameShown v w → IsWorld w → StandsIn shown t.live w (record own { broken = wrong; pieces = all })
+        → LeavesOthers shown (Some own.handle) (IsNot own.hidden) s.live t.live v w
     written_left wrong all leaves same is_now stands = record {
-      files = file_left shown s.live t.live v w is (λ n. n ≢ stood.held.number) (IsNot path) leaves of_row;
+      files = file_left shown s.live t.live v w is (λ n. n ≢ stood.held.number) (IsNot own.hidden) leaves of_row;
       bodies = λ k l o ne alive opens.
-          body_left shown s.live t.live v w is (λ n. n ≢ stood.held.number) (IsNot path) leaves of_row h frame k l o (not_own h k ne) (λ counts e. not_own h k ne (stood.apart k l o counts alive opens e)) alive opens;
-      uploads = λ hidden k broken some ne other.
-          (let away : k ≢ h = other_handle shown v is s.live path hidden h k bad broken pieces some stood other ne in
-          upload_left shown s.live t.live v w is (λ n. n ≢ stood.held.number) (IsNot path) leaves of_row h frame hidden k broken some ne other away (unseen_same v w other.held.number same other.unseen)
-          (fresh_from shown s.live t.live v w is (λ n. n ≢ stood.held.number) (IsNot path) leaves of_row h frame is_now path wrong all stands hidden k broken some ne ne other));
+          body_left shown s.live t.live v w is (λ n. n ≢ stood.held.number) (IsNot own.hidden) leaves of_row own.handle frame k l o (not_own own.handle k ne) (λ counts e. not_own own.handle k ne (stood.apart k l o counts alive opens e)) alive opens;
+      uploads = λ u ne other.
+          (let away : u.handle ≢ own.handle = other_handle shown v is s.live own u stood other ne in
+          upload_left shown s.live t.live v w is (λ n. n ≢ stood.held.number) (IsNot own.hidden) leaves of_row own.handle frame u ne other away (unseen_same v w other.held.number same other.unseen)
+          (fresh_from shown s.live t.live v w is (λ n. n ≢ stood.held.number) (IsNot own.hidden) leaves of_row own.handle frame is_now (record own { broken = wrong; pieces = all }) refl stands u ne ne other));
     }
       where
-        of_row : (x : Names) (row : Row) → IsNot path x → row_at v.tree x ≡ Some row → row.number ≢ stood.held.number
-        of_row x row ne at e = ne (one_path v is x path row stood.row at stood.at (e ∙ sym stood.number))
+        of_row : (x : Names) (row : Row) → IsNot own.hidden x → row_at v.tree x ≡ Some row → row.number ≢ stood.held.number
+        of_row x row ne at e = ne (one_path v is x own.hidden row stood.row at stood.at (e ∙ sym stood.number))
 
     -- Its file was closed, and taken or moved.
-    pub ended_left : Leaves IsOfAny (IsHiddenBut path) v w → t.live h ≡ None → ((n : ℕ) → n ≢ stood.held.number → IsUnseen v n → IsUnseen w n) → LeavesOthers shown (Some h) (IsNot path) s.live t.live v w
+    pub ended_left : Leaves IsOfAny (IsHiddenBut own.hidden) v w → t.live own.handle ≡ None → ((n : ℕ) → n ≢ stood.held.number → IsUnseen v n → IsUnseen w n)
+        → LeavesOthers shown (Some own.handle) (IsNot own.hidden) s.live t.live v w
     ended_left leaves gone unseen = record {
       files = λ x row ne at holds. (leaves.bytes row.number tt holds).1;
-      bodies = λ k l o ne alive opens. body_left shown s.live t.live v w is IsOfAny (IsHiddenBut path) leaves of_row h frame k l o (not_own h k ne) (λ counts. tt) alive opens;
-      uploads = λ hidden k broken some ne other.
-          upload_left shown s.live t.live v w is IsOfAny (IsHiddenBut path) leaves of_row h frame hidden k broken some (ne, other.hides) other
-          (other_handle shown v is s.live path hidden h k bad broken pieces some stood other ne)
-          (unseen other.held.number (other_number shown v is s.live path hidden h k bad broken pieces some stood other ne) other.unseen) (λ l o counts is_live opens e. none l is_live);
+      bodies = λ k l o ne alive opens. body_left shown s.live t.live v w is IsOfAny (IsHiddenBut own.hidden) leaves of_row own.handle frame k l o (not_own own.handle k ne) (λ counts. tt) alive opens;
+      uploads = λ u ne other.
+          upload_left shown s.live t.live v w is IsOfAny (IsHiddenBut own.hidden) leaves of_row own.handle frame u (ne, other.hides) other (other_handle shown v is s.live own u stood other ne)
+          (unseen other.held.number (other_number shown v is s.live own u stood other ne) other.unseen) (λ l o counts is_live opens e. none l is_live);
     }
       where
-        of_row : (x : Names) (row : Row) → IsHiddenBut path x → row_at v.tree x ≡ Some row → IsOfAny row.number
+        of_row : (x : Names) (row : Row) → IsHiddenBut own.hidden x → row_at v.tree x ≡ Some row → IsOfAny row.number
         of_row x row other at = tt
 
-        none : (l : Live) → t.live h ≡ Some l → ⊥
+        none : (l : Live) → t.live own.handle ≡ Some l → ⊥
         none l is_live = let g : None ≡ Some l = sym gone ∙ is_live in cc

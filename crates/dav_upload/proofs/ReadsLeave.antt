@@ -10,7 +10,7 @@ use Rattle.dav_core.specs.Writing.{reading}
 use Rattle.dav_walks.proofs.calls.KeptOpen.{but_kept, open_kept}
 use Rattle.dav_upload.specs.Others.{IsAny, IsOfShown, LeavesOthers}
 use Rattle.dav_upload.specs.Shown.{SameShown}
-use Rattle.dav_upload.specs.Standing.{OthersOpen, StandsIn}
+use Rattle.dav_upload.specs.Standing.{OthersOpen, Pending, StandsIn}
 use Rattle.dav_upload.proofs.Chains.{told_pair}
 use Rattle.dav_upload.proofs.Kept.{unseen_same}
 use Rattle.dav_upload.proofs.Leaves.{Leaves, leaves_same}
@@ -37,10 +37,10 @@ module _ (counts : ℕ → Bool) (s t : DiskState) (v w : World) (was : s.told �
     of_row : (x : Names) (row : Row) → IsAny x → row_at v.tree x ≡ Some row → IsOfAny row.number
     of_row x row any at = tt
 
-    upload_there : (hidden : Names) (k : ℕ) (broken : Bool) (pieces : List ℕ) → (other : StandsIn counts s.live v hidden k broken pieces) → k ≢ h
-        → ((l : Live) (o : OpenFile) → counts h ≡ true → t.live h ≡ Some l → w.opens h ≡ Some o → o.number ≢ other.held.number) → StandsIn counts t.live w hidden k broken pieces
-    upload_there hidden k broken pieces other away fresh =
-        upload_left counts s.live t.live v w is IsOfAny IsAny leaves of_row h frame hidden k broken pieces tt other away (unseen_same v w other.held.number shown other.unseen) fresh
+    upload_there : (u : Pending) → (other : StandsIn counts s.live v u) → u.handle ≢ h
+        → ((l : Live) (o : OpenFile) → counts h ≡ true → t.live h ≡ Some l → w.opens h ≡ Some o → o.number ≢ other.held.number) → StandsIn counts t.live w u
+    upload_there u other away fresh =
+        upload_left counts s.live t.live v w is IsOfAny IsAny leaves of_row h frame u tt other away (unseen_same v w other.held.number shown other.unseen) fresh
 
     -- A file was opened, which is one that is shown where its handle counts.
     pub opened_leaves : s.live h ≡ None → (counts h ≡ true → IsOfShown v w h) → SameShown v w × LeavesOthers counts None IsAny s.live t.live v w
@@ -49,8 +49,8 @@ module _ (counts : ℕ → Bool) (s t : DiskState) (v w : World) (was : s.told �
       record {
         files = λ x r any there holds. (leaves.bytes r.number tt holds).1;
         bodies = λ k l o ne alive opens. body_left counts s.live t.live v w is IsOfAny IsAny leaves of_row h frame k l o (dead k l alive) (λ is_counted. tt) alive opens;
-        uploads = λ hidden k broken pieces any other.
-            upload_there hidden k broken pieces other (λ e. (let (l, alive) = some_of (s.live k) other.lives in dead k l alive e))
+        uploads = λ u any other.
+            upload_there u other (λ e. (let (l, alive) = some_of (s.live u.handle) other.lives in dead u.handle l alive e))
             (λ l o is_counted is_live opens e. (let (path, row, at, shows, number) = of_shown is_counted in other.unseen path row at shows (sym (number o opens) ∙ e)));
       },
     )
@@ -66,11 +66,11 @@ module _ (counts : ℕ → Bool) (s t : DiskState) (v w : World) (was : s.told �
       record {
         files = λ x r any there holds. (leaves.bytes r.number tt holds).1;
         bodies = λ k m o ne alive opens. body_left counts s.live t.live v w is IsOfAny IsAny leaves of_row h frame k m o (not_own h k ne) (λ is_counted. tt) alive opens;
-        uploads = λ hidden k broken pieces any other.
-            (let away : k ≢ h = λ e. (let of = other.how l (ap s.live e ∙ live) in
+        uploads = λ u any other.
+            (let away : u.handle ≢ h = λ e. (let of = other.how l (ap s.live e ∙ live) in
             let reads : reading.read ≡ false = ap (λ o. o.read) (sym how ∙ of) in
             cc) in
-            upload_there hidden k broken pieces other away
+            upload_there u other away
             (λ m o is_counted is_live opens e. (let (p, there, number) = same m o is_live opens in away (sym (other.apart h l p is_counted live there (number ∙ e))))));
       },
     )

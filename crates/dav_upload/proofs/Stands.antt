@@ -12,7 +12,7 @@ use Rattle.dav_upload.specs.Kept.{KeepsRow}
 use Rattle.dav_upload.specs.Names.{is_hidden_path}
 use Rattle.dav_upload.specs.Pieces.{upload_options}
 use Rattle.dav_upload.specs.Shown.{IsUnseen, SameShown}
-use Rattle.dav_upload.specs.Standing.{OthersOpen, StandsIn}
+use Rattle.dav_upload.specs.Standing.{OthersOpen, Pending, StandsIn}
 use Rattle.dav_upload.proofs.Beside.{below_greatest}
 use Rattle.dav_upload.proofs.Kept.{IsMadeIn, kept_filled, made_in, same_keep, unseen_new, unseen_same}
 use Rattle.dav_upload.proofs.Making.{filled_unseen}
@@ -34,18 +34,18 @@ module _ (shown : ℕ → Bool) (own : ℕ) (live then : ℕ → Option Live) (v
           apart k l o counts was (sym (others.opens k l ne was) ∙ opens) e
 
   -- An upload with another handle goes on standing.
-  pub other_stands : (hidden : Names) (h : ℕ) (broken : Bool) (pieces : List ℕ) (s : StandsIn shown live v hidden h broken pieces) → h ≢ own → KeepsRow v w hidden
+  pub other_stands : (u : Pending) (s : StandsIn shown live v u) → u.handle ≢ own → KeepsRow v w u.hidden
       → (IsUnseen v s.held.number → IsUnseen w s.held.number) → (Holds w s.held.number → bytes_of w s.held.number ≡ bytes_of v s.held.number)
-      → ((l : Live) (o : OpenFile) → shown own ≡ true → then own ≡ Some l → w.opens own ≡ Some o → o.number ≢ s.held.number) → StandsIn shown then w hidden h broken pieces
-  other_stands hidden h broken pieces s ne kept unseen bytes fresh =
+      → ((l : Live) (o : OpenFile) → shown own ≡ true → then own ≡ Some l → w.opens own ≡ Some o → o.number ≢ s.held.number) → StandsIn shown then w u
+  other_stands u s ne kept unseen bytes fresh =
       let (row, at, kind, number) = kept s.row s.at in
-      let (l, alive) = some_of (live h) s.lives in
-      let opens = others.opens h l ne alive ∙ s.opens in
+      let (l, alive) = some_of (live u.handle) s.lives in
+      let opens = others.opens u.handle l ne alive ∙ s.opens in
       let there : row.number ≡ s.held.number = number ∙ s.number in
-      let holds : Holds w s.held.number = subst (Holds w) there (inl (numbered w.tree hidden row at)) in record {
-        lives = subst IsSome (sym (others.lives h ne)) s.lives;
-        how = λ l is. s.how l (sym (others.lives h ne) ∙ is);
-        file = λ l is. s.file l (sym (others.lives h ne) ∙ is);
+      let holds : Holds w s.held.number = subst (Holds w) there (inl (numbered w.tree u.hidden row at)) in record {
+        lives = subst IsSome (sym (others.lives u.handle ne)) s.lives;
+        how = λ l is. s.how l (sym (others.lives u.handle ne) ∙ is);
+        file = λ l is. s.file l (sym (others.lives u.handle ne) ∙ is);
         held = s.held;
         opens = opens;
         row = row;
@@ -54,14 +54,15 @@ module _ (shown : ℕ → Bool) (own : ℕ) (live then : ℕ → Option Live) (v
         number = there;
         hides = s.hides;
         unseen = unseen s.unseen;
-        apart = apart_still h s.held.number s.apart (λ l o counts is opens e. absurd (fresh l o counts is opens e));
+        apart = apart_still u.handle s.held.number s.apart (λ l o counts is opens e. absurd (fresh l o counts is opens e));
         whole = λ e. (bytes holds ∙ (s.whole e).0, (s.whole e).1);
       }
 
   -- ---- the upload that begins
 
   pub made_stands : (hidden : Names) (h : ℕ) (row : Row) → IsWorld v → is_hidden_path hidden ≡ true → row_at v.tree hidden ≡ None → Edited (makes hidden File []) v w → SameShown v w
-      → row_at w.tree hidden ≡ Some row → own ≡ h → IsSome (then h) → ((l : Live) → then h ≡ Some l → l.how ≡ upload_options) → ((l : Live) → then h ≡ Some l → l.kind ≡ row.kind) → w.opens h ≡ Some (at_start row.number) → StandsIn shown then w hidden h false []
+      → row_at w.tree hidden ≡ Some row → own ≡ h → IsSome (then h) → ((l : Live) → then h ≡ Some l → l.how ≡ upload_options) → ((l : Live) → then h ≡ Some l → l.kind ≡ row.kind) → w.opens h ≡ Some (at_start row.number)
+      → StandsIn shown then w (record { hidden = hidden; handle = h; broken = false; pieces = [] })
   made_stands hidden h row is hides none edited same at owned alive how of opens =
       let made : IsMadeIn v w hidden = made_in v w hidden none edited in
       let one : Some made.row ≡ Some row = sym made.at ∙ at in
@@ -89,13 +90,13 @@ module _ (shown : ℕ → Bool) (own : ℕ) (live then : ℕ → Option Live) (v
   -- ---- the upload whose file is written
 
   -- what its file holds now, by what its handle has open
-  pub written_stands : (hidden : Names) (h : ℕ) (broken wrong : Bool) (pieces all : List ℕ) (s : StandsIn shown live v hidden h broken pieces) (now : OpenFile) (bytes : List ℕ) → own ≡ h
-      → Edited (fills s.held.number bytes) v w → then h ≡ live h → w.opens h ≡ Some now → now.number ≡ s.held.number → (wrong ≡ false → (bytes ≡ all) × (now.place ≡ length all))
-      → StandsIn shown then w hidden h wrong all
-  written_stands hidden h broken wrong pieces all s now bytes owned edited alive opens number whole =
-      let (row, at, kind, numbers) = kept_filled v w s.held.number bytes hidden edited s.row s.at in
+  pub written_stands : (u : Pending) (wrong : Bool) (all : List ℕ) (s : StandsIn shown live v u) (now : OpenFile) (bytes : List ℕ) → own ≡ u.handle
+      → Edited (fills s.held.number bytes) v w → then u.handle ≡ live u.handle → w.opens u.handle ≡ Some now → now.number ≡ s.held.number → (wrong ≡ false → (bytes ≡ all) × (now.place ≡ length all))
+      → StandsIn shown then w (record u { broken = wrong; pieces = all })
+  written_stands u wrong all s now bytes owned edited alive opens number whole =
+      let (row, at, kind, numbers) = kept_filled v w s.held.number bytes u.hidden edited s.row s.at in
       let there : row.number ≡ now.number = numbers ∙ (s.number ∙ sym number) in
-      let holds : Holds w s.held.number = subst (Holds w) (there ∙ number) (inl (numbered w.tree hidden row at)) in record {
+      let holds : Holds w s.held.number = subst (Holds w) (there ∙ number) (inl (numbered w.tree u.hidden row at)) in record {
         lives = subst IsSome (sym alive) s.lives;
         how = λ l is. s.how l (sym alive ∙ is);
         file = λ l is. s.file l (sym alive ∙ is);
@@ -107,7 +108,7 @@ module _ (shown : ℕ → Bool) (own : ℕ) (live then : ℕ → Option Live) (v
         number = there;
         hides = s.hides;
         unseen = subst (IsUnseen w) (sym number) (unseen_same v w s.held.number (filled_unseen v w s.held.number bytes s.unseen edited) s.unseen);
-        apart = λ k l o counts is_live was e. apart_still h s.held.number s.apart (λ l o counts is_live was e. owned) k l o counts is_live was (e ∙ number);
+        apart = λ k l o counts is_live was e. apart_still u.handle s.held.number s.apart (λ l o counts is_live was e. owned) k l o counts is_live was (e ∙ number);
         whole = λ e. (ap (bytes_of w) number ∙ (filled_bytes s.held.number bytes v w edited holds ∙ (whole e).0), (whole e).1);
       }
     where
@@ -117,9 +118,9 @@ module _ (shown : ℕ → Bool) (own : ℕ) (live then : ℕ → Option Live) (v
           ap (λ o. elim o as (λ x. List ℕ) [ None ↦ [] | Some stored ↦ stored.bytes ]) ((becomes.files n holds).1 ∙ put_same n (Some (record { bytes = bytes; time = t })) v.files)
 
 -- What stands where some handles count stands where others do, as long as each live one of those counted.
-pub stands_counted : (shown counts : ℕ → Bool) (live : ℕ → Option Live) (w : World) (hidden : Names) (h : ℕ) (broken : Bool) (pieces : List ℕ) → ((k : ℕ) (l : Live) → counts k ≡ true → live k ≡ Some l → shown k ≡ true)
-    → StandsIn shown live w hidden h broken pieces → StandsIn counts live w hidden h broken pieces
-stands_counted shown counts live w hidden h broken pieces fewer s = record {
+pub stands_counted : (shown counts : ℕ → Bool) (live : ℕ → Option Live) (w : World) (u : Pending) → ((k : ℕ) (l : Live) → counts k ≡ true → live k ≡ Some l → shown k ≡ true)
+    → StandsIn shown live w u → StandsIn counts live w u
+stands_counted shown counts live w u fewer s = record {
   lives = s.lives;
   how = s.how;
   file = s.file;

@@ -24,7 +24,7 @@ use Rattle.dav_upload.specs.Names.{hidden_beside, is_hidden_path, is_taken}
 use Rattle.dav_upload.specs.Others.{IsNot, LeavesOthers}
 use Rattle.dav_upload.specs.Pieces.{upload_options}
 use Rattle.dav_upload.specs.Shown.{IsUnseen, StandsBeside}
-use Rattle.dav_upload.specs.Standing.{StandsIn}
+use Rattle.dav_upload.specs.Standing.{StandsIn, pending}
 use Rattle.dav_upload.specs.Steps.{IsBeside, IsClear, Pieced}
 use Rattle.dav_upload.specs.Takes.{TakesUploads}
 use Rattle.dav_upload.specs.Uploading.{AfterClose, AfterJudged, AfterJudging, AfterMove, Aborts, Begins, BeginsAs, Commits, Judges, PieceOn, WritesPiece, begun as upload_begun}
@@ -81,7 +81,7 @@ module _ {S C F : Type 0} (view : View S C F) (writes : Writes F) (c : C) (test 
           let did : Edited (makes path File []) u w = subst (λ e. EditedBy e u w) made edited in
           let (same_shown, links, stands) = opened_began view writes c test takes_all shown s t v w was now target token u m (Ok f) (Ok (upload_begun target token f)) here same free q opens one refl in
           let later : Leaves (λ n. n ≤ v.greatest) (IsNot path) u w = subst (λ g. Leaves (λ n. n ≤ g) (IsNot path) u w) same.greatest (leaves_made (IsNot path) u w path (λ x ne e. ne e) did) in
-          new_left shown (view.state s) (view.state t) v w was now (takes_all.worlds s v was) path (view.file.handle f)
+          new_left shown (view.state s) (view.state t) v w was now (takes_all.worlds s v was) (pending view.file.handle (upload_begun target token f) [])
           (but_then (view.file.handle f) (view.state s) (view.state m) (view.state t) (but_open (view.file.handle f) (view.state s) (view.state m) (open_kept (view.state s) (view.state m) keeps)) one.others)
           (leaves_then (λ n. n ≤ v.greatest) (IsNot path) v u w (leaves_same (λ n. n ≤ v.greatest) (IsNot path) v u same) later) (sym (keeps.live (view.file.handle f)) ∙ one.fresh) same_shown (takes_all.worlds t w now) stands
 
@@ -108,14 +108,14 @@ module _ {S C F : Type 0} (view : View S C F) (writes : Writes F) (c : C) (test 
   -- ---- a piece
 
   pub piece_left : (shown : ℕ → Bool) (u x : Upload F) (s t : S) (v w : World) (bytes pieces : List ℕ) (r : Result Unit UploadError) → (view.state s).told ≡ Some v → (view.state t).told ≡ Some w
-      → StandsIn shown (view.state s).live v u.hidden.names (view.file.handle u.file) u.broken pieces → WritesPiece view writes u bytes s r t x
+      → StandsIn shown (view.state s).live v (pending view.file.handle u pieces) → WritesPiece view writes u bytes s r t x
       → LeavesOthers shown (Some (view.file.handle u.file)) (IsNot u.hidden.names) (view.state s).live (view.state t).live v w
   piece_left shown u x s t v w bytes pieces r was now stands piece_so = by u.broken refl piece_so
     where
       world : IsWorld v
       world = takes_all.worlds s v was
 
-      after : Pieced shown view.file.handle (view.state t).live x pieces bytes v w
+      after : Pieced shown (view.state t).live (pending view.file.handle x (pieces ++ bytes)) v w
       after = pieced view writes c test takes_all shown u x s t v w bytes pieces r was now stands piece_so
 
       filled : (y : Result Unit FsError) → WritesAt (view.file.handle u.file) bytes y stands.held v w → Leaves (λ n. n ≢ stands.held.number) (IsNot u.hidden.names) v w
@@ -132,15 +132,15 @@ module _ {S C F : Type 0} (view : View S C F) (writes : Writes F) (c : C) (test 
           (takes_all.writes_file s t u.file file bytes y writes_so (never_appends view writes c test takes_all ((view.state s).live (view.file.handle u.file)) stands.how)) was now stands.held stands.opens within in
           let own : view.file.handle x.file ≡ view.file.handle u.file = ap (λ (z : Upload F). view.file.handle z.file) is ∙ writes_so.handle in
           let hidden : x.hidden.names ≡ u.hidden.names = ap (λ (z : Upload F). z.hidden.names) is in
-          let now_stands : StandsIn shown (view.state t).live w u.hidden.names (view.file.handle u.file) x.broken (pieces ++ bytes) =
-          subst (λ k. StandsIn shown (view.state t).live w u.hidden.names k x.broken (pieces ++ bytes)) own
-          (subst (λ p. StandsIn shown (view.state t).live w p (view.file.handle x.file) x.broken (pieces ++ bytes)) hidden after.2) in
-          written_left shown (view.state s) (view.state t) v w was now world u.hidden.names (view.file.handle u.file) writes_so.told.keeps u.broken pieces stands x.broken (pieces ++ bytes) (filled y did) after.0 (takes_all.worlds t w now) now_stands
+          let now_stands : StandsIn shown (view.state t).live w (record { hidden = u.hidden.names; handle = view.file.handle u.file; broken = x.broken; pieces = pieces ++ bytes }) =
+          subst (λ k. StandsIn shown (view.state t).live w (record { hidden = u.hidden.names; handle = k; broken = x.broken; pieces = pieces ++ bytes })) own
+          (subst (λ p. StandsIn shown (view.state t).live w (record { hidden = p; handle = view.file.handle x.file; broken = x.broken; pieces = pieces ++ bytes })) hidden after.2) in
+          written_left shown (view.state s) (view.state t) v w was now world (pending view.file.handle u pieces) writes_so.told.keeps stands x.broken (pieces ++ bytes) (filled y did) after.0 (takes_all.worlds t w now) now_stands
 
   -- ---- the end of an upload
 
   module _ (shown : ℕ → Bool) (u : Upload F) (s t : S) (v w : World) (pieces : List ℕ) (was : (view.state s).told ≡ Some v) (now : (view.state t).told ≡ Some w)
-      (stands : StandsIn shown (view.state s).live v u.hidden.names (view.file.handle u.file) u.broken pieces) (p : plain s) where
+      (stands : StandsIn shown (view.state s).live v (pending view.file.handle u pieces)) (p : plain s) where
     abbrev pub h : ℕ
     h = view.file.handle u.file
 
@@ -166,7 +166,7 @@ module _ {S C F : Type 0} (view : View S C F) (writes : Writes F) (c : C) (test 
             unseen_at x y n path ((moved_commits x y hidden u.target.names stands.row beside edited).others path (λ g. never (same_names path u.target.names) (names_equal path u.target.names g) e)) unseen r at shows f
 
     did_left : KeepsOpenBut h (view.state s) (view.state t) → (view.state t).live h ≡ None → Did → LeftEnded
-    did_left keeps gone did = ended_left shown (view.state s) (view.state t) v w was now (takes_all.worlds s v was) hidden h keeps u.broken pieces stands (leaves did) gone (unseen did)
+    did_left keeps gone did = ended_left shown (view.state s) (view.state t) v w was now (takes_all.worlds s v was) (pending view.file.handle u pieces) keeps stands (leaves did) gone (unseen did)
       where
         leaves : Did → Leaves IsOfAny (IsHiddenBut hidden) v w
         leaves (stayed x same took) = leaves_then IsOfAny (IsHiddenBut hidden) v x w (leaves_same IsOfAny (IsHiddenBut hidden) v x same) (elim took [

@@ -1,12 +1,12 @@
 -- What a step of an upload leaves to others: to those who read, and to other uploads.
-use Rattle.std.specs.Prelude.{◌≡◌, ◌≢◌, ℕ, List, Bool, true, false, Option, Some}
+use Rattle.std.specs.Prelude.{◌≡◌, ◌≢◌, ℕ, Bool, true, false, Option, Some}
 use Rattle.dav_core.specs.declared.tree.Row.{Row}
 use Rattle.dav_core.specs.Disk.{Live}
 use Rattle.dav_core.specs.Path.{Names, parent_of}
 use Rattle.dav_core.specs.Tree.{row_at}
 use Rattle.dav_core.specs.World.{Holds, OpenFile, World, bytes_of}
 use Rattle.dav_upload.specs.Names.{is_hidden_path}
-use Rattle.dav_upload.specs.Standing.{StandsIn}
+use Rattle.dav_upload.specs.Standing.{Pending, StandsIn}
 
 -- `shown` tells which handles count as those of bodies of files that are shown. `own` is the handle of the step's
 -- upload, where it has one, and `other` the paths that aren't the step's own.
@@ -20,8 +20,7 @@ pub record LeavesOthers (shown : ℕ → Bool) (own : Option ℕ) (other : Names
       → (then k ≡ Some l) × (w.opens k ≡ Some o)
       × (shown k ≡ true → bytes_of w o.number ≡ bytes_of v o.number)
   -- An upload with another hidden path goes on standing.
-  pub uploads : (hidden : Names) (h : ℕ) (broken : Bool) (pieces : List ℕ) → other hidden
-      → StandsIn shown live v hidden h broken pieces → StandsIn shown then w hidden h broken pieces
+  pub uploads : (u : Pending) → other u.hidden → StandsIn shown live v u → StandsIn shown then w u
 
 -- What a handle has open is the file of a row that is shown.
 abbrev pub IsOfShown : World → World → ℕ → Type 0

@@ -12,7 +12,7 @@ use Rattle.dav_upload.specs.declared.error.UploadError.TheVariants.{Dav, NoMemor
 use Rattle.dav_upload.specs.declared.upload.Upload.{Upload}
 use Rattle.dav_upload.specs.Names.{is_hidden, is_hidden_path}
 use Rattle.dav_upload.specs.Shown.{IsCommitted, SameShown}
-use Rattle.dav_upload.specs.Standing.{StandsIn}
+use Rattle.dav_upload.specs.Standing.{Pending, StandsIn, pending}
 
 -- The target of an upload is no hidden name, and its hidden path stands beside it.
 pub record IsBeside (target hidden : Names) : Type 0 where
@@ -37,7 +37,7 @@ HasClearNames w dir = (name : List ℕ) → is_hidden name ≡ true → is_linke
 abbrev pub Began : {F : Type 0} → (ℕ → Bool) → (F → ℕ) → (ℕ → Option Live) → Result (Upload F) UploadError → World
     → World → Type 0
 Began shown handle live (Ok u) v w = SameShown v w × SameLinks v w
-    × StandsIn shown live w u.hidden.names (handle u.file) u.broken []
+    × StandsIn shown live w (pending handle u [])
 Began shown handle live (Err e) v w = SameShown v w
 
 -- The store met a fault, or memory was wanting.
@@ -53,8 +53,6 @@ Committed target broken pieces (Ok outcome) v w = (broken ≡ false) × IsCommit
 Committed target true pieces (Err e) v w = SameShown v w
 Committed target false pieces (Err e) v w = SameShown v w ⊎ ((is_fault e ≡ true) × IsCommitted v target pieces w)
 
--- A piece leaves what is shown, and its upload stands: with the piece behind the others, or broken.
-abbrev pub Pieced : {F : Type 0} → (ℕ → Bool) → (F → ℕ) → (ℕ → Option Live) → Upload F → List ℕ → List ℕ → World → World
-    → Type 0
-Pieced shown handle live u pieces bytes v w = SameShown v w × SameLinks v w
-    × StandsIn shown live w u.hidden.names (handle u.file) u.broken (pieces ++ bytes)
+-- A piece leaves what is shown, and its upload goes on standing, as it is behind the piece.
+abbrev pub Pieced : (ℕ → Bool) → (ℕ → Option Live) → Pending → World → World → Type 0
+Pieced shown live u v w = SameShown v w × SameLinks v w × StandsIn shown live w u

@@ -12,7 +12,7 @@ ghost use Rattle.dav_core.specs.Tree.{row_at};
 ghost use Rattle.dav_upload.specs.EachStep.{AreWhole, LeaveNoName, LeaveOthers, SweepsAreUnseen, SweepsBeforeAreUnseen, SweepsBeforeLeaveOthers, SweepsLeaveOthers};
 ghost use Rattle.dav_upload.specs.Kept.{KeepsRow};
 ghost use Rattle.dav_upload.specs.Others.{IsAny, IsOfShown, LeavesOthers};
-ghost use Rattle.dav_upload.specs.Standing.{OthersOpen, StandsIn};
+ghost use Rattle.dav_upload.specs.Standing.{OthersOpen, Pending, StandsIn};
 ghost use Rattle.dav_upload.specs.Takes.{LeadsPlainly, ReadsPlainly, TakesUploads};
 ghost use Rattle.dav_store.specs.Files.{WritesIn};
 ghost use Rattle.dav_store.specs.Standing.{Seen};
@@ -127,17 +127,16 @@ pub fn reads_leave_uploads()
 /// elsewhere, and all else that is open stays. It stands too where other handles count as those of bodies of files that
 /// are shown, as long as no live one is among them that didn't count: so a body that is opened counts from then on.
 pub fn uploads_stand_on()
-    ensures edits { (shown : ℕ → Bool) (own : ℕ) (live then : ℕ → Option Live) (v w : World) (hidden : Names) (h : ℕ)
-        (broken : Bool) (pieces : List ℕ) → OthersOpen own live then v w
-        → (s : StandsIn shown live v hidden h broken pieces) → h ≢ own → KeepsRow v w hidden → SameShown v w
+    ensures edits { (shown : ℕ → Bool) (own : ℕ) (live then : ℕ → Option Live) (v w : World) (u : Pending)
+        → OthersOpen own live then v w
+        → (s : StandsIn shown live v u) → u.handle ≢ own → KeepsRow v w u.hidden → SameShown v w
         → (Holds w s.held.number → bytes_of w s.held.number ≡ bytes_of v s.held.number)
         → ((l : Live) (o : OpenFile) → shown own ≡ true → then own ≡ Some l → w.opens own ≡ Some o
         → o.number ≢ s.held.number)
-        → StandsIn shown then w hidden h broken pieces }
-    ensures counted { (shown counts : ℕ → Bool) (live : ℕ → Option Live) (w : World) (hidden : Names) (h : ℕ)
-        (broken : Bool) (pieces : List ℕ)
+        → StandsIn shown then w u }
+    ensures counted { (shown counts : ℕ → Bool) (live : ℕ → Option Live) (w : World) (u : Pending)
         → ((k : ℕ) (l : Live) → counts k ≡ true → live k ≡ Some l → shown k ≡ true)
-        → StandsIn shown live w hidden h broken pieces → StandsIn counts live w hidden h broken pieces }
+        → StandsIn shown live w u → StandsIn counts live w u }
 {}
 
 /// A piece that was written stands behind those before, over any store.

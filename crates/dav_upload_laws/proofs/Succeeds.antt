@@ -64,7 +64,7 @@ use Rattle.dav_upload.specs.declared.error.UploadError.TheVariants.{Dav, NoMemor
 use Rattle.dav_upload.specs.declared.upload.Upload.{Upload}
 use Rattle.dav_upload.specs.Names.{hidden_beside, hidden_name, is_hidden, is_hidden_path, is_taken}
 use Rattle.dav_upload.specs.Pieces.{upload_options}
-use Rattle.dav_upload.specs.Standing.{StandsIn}
+use Rattle.dav_upload.specs.Standing.{StandsIn, pending}
 use Rattle.dav_upload.specs.Steps.{IsBeside, IsClear}
 use Rattle.dav_upload.specs.Uploading.{AfterClose, AfterJudged, AfterJudging, AfterMove, Aborts, Begins, BeginsAs, Commits, Judges, PieceOn, WritesPiece, done_as, opened_as, refusal_of, refused_by}
 use Rattle.dav_upload.proofs.Beside.{looked_at, hidden_some}
@@ -450,7 +450,7 @@ module _ {S C : Type 0} (view : View S C LocalFsFile) (lists : Listings S C Loca
 
   -- ---- a piece
 
-  pub piece_succeeds : (shown : ℕ → Bool) (u x : Upload LocalFsFile) (s t : S) (v : World) (bytes pieces : List ℕ) (r : Result Unit UploadError) → StandsIn shown (view.state s).live v u.hidden.names (view.file.handle u.file) u.broken pieces → u.broken ≡ false
+  pub piece_succeeds : (shown : ℕ → Bool) (u x : Upload LocalFsFile) (s t : S) (v : World) (bytes pieces : List ℕ) (r : Result Unit UploadError) → StandsIn shown (view.state s).live v (pending view.file.handle u pieces) → u.broken ≡ false
       → RefusedNothing (view.state s).faults (view.state t).faults → WritesPiece view writes u bytes s r t x → Succeeds r
   piece_succeeds shown u x s t v bytes pieces r stands whole none piece_so = by (subst (λ b. PieceOn view writes b u bytes s r t x) whole piece_so)
     where
@@ -485,7 +485,7 @@ module _ {S C : Type 0} (view : View S C LocalFsFile) (lists : Listings S C Loca
       ap (λ a. first (when path.slash 405 ∷ when (not (is_dir_found a)) 409 ∷ refused_there (stands x u path) ∷ when (is_dir_found (stands x u path)) 405 ∷ the_unmet Put fields (stands x u path) ∷ [])) (stands_same x v u (the_above path) same)
       ∙ (ap (λ b. first (when path.slash 405 ∷ when (not (has_parent x v path)) 409 ∷ refused_there b ∷ when (is_dir_found b) 405 ∷ the_unmet Put fields b ∷ [])) (stands_same x v u path same) ∙ passes)
 
-  module _ (shown : ℕ → Bool) (u : Upload LocalFsFile) (s t : S) (v : World) (pieces : List ℕ) (was : (view.state s).told ≡ Some v) (stands_so : StandsIn shown (view.state s).live v u.hidden.names (view.file.handle u.file) u.broken pieces)
+  module _ (shown : ℕ → Bool) (u : Upload LocalFsFile) (s t : S) (v : World) (pieces : List ℕ) (was : (view.state s).told ≡ Some v) (stands_so : StandsIn shown (view.state s).live v (pending view.file.handle u pieces))
       (plain : finds_as_written (ways s) ≡ true) (none : RefusedNothing (view.state s).faults (view.state t).faults) where
     -- a store on the way to the end, before the hidden file was moved or taken
     record Waits (m : S) : Type 0 where

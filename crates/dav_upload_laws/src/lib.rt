@@ -27,7 +27,7 @@ ghost use Rattle.dav_upload.specs.EachStep.{AreWhole, LeaveOthers, SweepsAreUnse
 ghost use Rattle.dav_upload.specs.Names.{hidden_beside, is_taken};
 ghost use Rattle.dav_upload.specs.Others.{IsAny, LeavesOthers};
 ghost use Rattle.dav_upload.specs.Shown.{SameShown};
-ghost use Rattle.dav_upload.specs.Standing.{StandsIn};
+ghost use Rattle.dav_upload.specs.Standing.{StandsIn, pending};
 ghost use Rattle.dav_upload.specs.Steps.{HasClearNames, IsBeside, IsClear};
 ghost use Rattle.dav_upload.specs.Takes.{LeadsPlainly, ReadsPlainly, TakesUploads};
 ghost use Rattle.dav_upload.specs.Sweeping.{SweepsBefore};
@@ -126,14 +126,14 @@ pub fn local_uploads_succeed<D: Disk, R: Remember>(_fs: &LocalFs<D, R>)
         → Begins ⟦<LocalFs<D, R> as DavFileSystem>⟧.view tt target fields token s r t → Succeeds r }
     ensures pieces { (shown : ℕ → Bool) (u x : Upload LocalFsFile) (s t : LocalFs D R) (v : World) (bytes pieces : List ℕ)
         (r : Result Unit Refusal)
-        → StandsIn shown (D.state s.disk).live v u.hidden.names
-        (⟦<LocalFs<D, R> as DavFileSystem>⟧.view.file.handle u.file) u.broken pieces
+        → StandsIn shown (D.state s.disk).live v
+        (pending ⟦<LocalFs<D, R> as DavFileSystem>⟧.view.file.handle u pieces)
         → u.broken ≡ false → RefusedNothing (D.state s.disk).faults (D.state t.disk).faults
         → WritesPiece ⟦<LocalFs<D, R> as DavFileSystem>⟧.view ⟦<LocalFsFile as DavFile<D>>⟧.view.writes u bytes s r t x → Succeeds r }
     ensures commits { (shown : ℕ → Bool) (u : Upload LocalFsFile) (s t : LocalFs D R) (v : World) (pieces : List ℕ)
         (fields : Fields) (r : Result Outcome Refusal) → (D.state s.disk).told ≡ Some v → finds_as_written s.ways ≡ true
-        → StandsIn shown (D.state s.disk).live v u.hidden.names
-        (⟦<LocalFs<D, R> as DavFileSystem>⟧.view.file.handle u.file) u.broken pieces
+        → StandsIn shown (D.state s.disk).live v
+        (pending ⟦<LocalFs<D, R> as DavFileSystem>⟧.view.file.handle u pieces)
         → u.broken ≡ false → IsBeside u.target.names u.hidden.names → IsClear v u.target.names u.hidden.names
         → IsRegular (rules_of s.ways) (knowledge_of (R.state s.memory)) v
         → is_forbidden (rules_of s.ways) u.target ≡ false → PassesTable (rules_of s.ways) v u.target fields
@@ -141,8 +141,8 @@ pub fn local_uploads_succeed<D: Disk, R: Remember>(_fs: &LocalFs<D, R>)
         → Commits ⟦<LocalFs<D, R> as DavFileSystem>⟧.view tt u fields s r t → Succeeds r }
     ensures aborts { (shown : ℕ → Bool) (u : Upload LocalFsFile) (s t : LocalFs D R) (v : World) (pieces : List ℕ)
         (r : Result Unit Refusal) → (D.state s.disk).told ≡ Some v → finds_as_written s.ways ≡ true
-        → StandsIn shown (D.state s.disk).live v u.hidden.names
-        (⟦<LocalFs<D, R> as DavFileSystem>⟧.view.file.handle u.file) u.broken pieces
+        → StandsIn shown (D.state s.disk).live v
+        (pending ⟦<LocalFs<D, R> as DavFileSystem>⟧.view.file.handle u pieces)
         → u.hidden.slash ≡ false → is_linked v.tree u.hidden.names ≡ false
         → RefusedNothing (D.state s.disk).faults (D.state t.disk).faults
         → Aborts ⟦<LocalFs<D, R> as DavFileSystem>⟧.view tt u s r t → Succeeds r }
