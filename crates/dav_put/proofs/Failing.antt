@@ -36,7 +36,7 @@ use Rattle.dav_put.specs.declared.storing.Stop.{Stop}
 use Rattle.dav_put.specs.declared.storing.Stop.TheVariants.{Refused, SourceFailed, TooMuch}
 use Rattle.dav_put.specs.Ending.{ending_by, ending_for, ending_of, ending_swept, is_failure}
 use Rattle.dav_put.specs.Performs.{StoresAt, SweepsAt}
-use Rattle.dav_put.specs.Storing.{BeginsSome, Ends, Fed, Pours, Stops, Stores, Tried, token_after}
+use Rattle.dav_put.specs.Storing.{Aim, BeginsSome, Ends, Fed, Feed, Pours, Stops, Stores, Tried, token_after}
 use Rattle.dav_put.specs.Storing.Fed.{begun, goes}
 use Rattle.dav_put.specs.Storing.Tried.{more, none}
 
@@ -154,18 +154,18 @@ module _ {S C F L E : Type 0} (view : View S C F) (lists : Listings S C L E) (wr
       by false (inl (same, is)) = cc
       by false (inr j) = by_may j.judged j.keeps.counts j.may j.judges j.opens
 
-  tried_count : (target : WebPath) (fields : Fields) (first : ℕ) (s : S) (tries : ℕ) (m : S) → Tried view writes c target fields first s tries m → Counts s m
-  tried_count target fields first s tries m none = omega arith
-  tried_count target fields first s tries m (more count name n k before begins) =
-      counts_then s n k (tried_count target fields first s count n before) (begins_count target fields (token_after first count) n (Err (Busy name)) k begins)
+  tried_count : (aim : Aim) (s : S) (tries : ℕ) (m : S) → Tried view writes c aim s tries m → Counts s m
+  tried_count aim s tries m none = omega arith
+  tried_count aim s tries m (more count name n k before begins) =
+      counts_then s n k (tried_count aim s count n before) (begins_count aim.target aim.fields (token_after aim.token count) n (Err (Busy name)) k begins)
 
-  some_count : (target : WebPath) (fields : Fields) (first : ℕ) (s : S) (r : Result (Upload F) UploadError) (t : S) → BeginsSome view writes c target fields first s r t → Counts s t
-  some_count target fields first s r t b =
-      counts_then s b.middle t (tried_count target fields first s b.tries b.middle b.tried) (begins_count target fields (token_after first b.tries) b.middle r t b.begins)
+  some_count : (aim : Aim) (s : S) (r : Result (Upload F) UploadError) (t : S) → BeginsSome view writes c aim s r t → Counts s t
+  some_count aim s r t b =
+      counts_then s b.middle t (tried_count aim s b.tries b.middle b.tried) (begins_count aim.target aim.fields (token_after aim.token b.tries) b.middle r t b.begins)
 
-  some_rose : (target : WebPath) (fields : Fields) (first : ℕ) (s : S) (e : UploadError) (t : S) → e ≡ Failure → BeginsSome view writes c target fields first s (Err e) t → Rises s t
-  some_rose target fields first s e t failed b =
-      later s b.middle t (tried_count target fields first s b.tries b.middle b.tried) (begins_rose target fields (token_after first b.tries) b.middle e t failed b.begins)
+  some_rose : (aim : Aim) (s : S) (e : UploadError) (t : S) → e ≡ Failure → BeginsSome view writes c aim s (Err e) t → Rises s t
+  some_rose aim s e t failed b =
+      later s b.middle t (tried_count aim s b.tries b.middle b.tried) (begins_rose aim.target aim.fields (token_after aim.token b.tries) b.middle e t failed b.begins)
 
   -- ---- pieces
 
@@ -186,23 +186,23 @@ module _ {S C F L E : Type 0} (view : View S C F) (lists : Listings S C L E) (wr
           let why : refused_by f ≡ Failure = (let g : e ≡ refused_by f = cc in sym g ∙ failed) in
           call_rose Unit s t f (few.writes_file s t u.file file bytes (Err f) written) why
 
-  fed_count : (s : S) (u : Upload F) (i : Stream) (count : ℕ) (bytes : List ℕ) (t : S) (v : Upload F) (j : Stream) → Fed view writes s u i count bytes t v j → Counts s t
-  fed_count s u i count bytes t v j begun = omega arith
-  fed_count s u i count bytes t v j (goes before front piece m n x y k l fed gives wrote) = counts_then s m n (fed_count s u i before front m x k fed) (piece_count x y piece m n (Ok tt) wrote)
+  fed_count : (p : Feed S F) (count : ℕ) (bytes : List ℕ) (q : Feed S F) → Fed view writes p count bytes q → Counts p.store q.store
+  fed_count p count bytes q begun = omega arith
+  fed_count p count bytes q (goes before front piece m n fed gives wrote) = counts_then p.store m.store n.store (fed_count p before front m fed) (piece_count m.upload n.upload piece m.store n.store (Ok tt) wrote)
 
-  stops_count : (count : ℕ) (s : S) (u : Upload F) (i : Stream) (r : Result Unit Stop) (t : S) (v : Upload F) (j : Stream) → Stops view writes count s u i r t v j → Counts s t
-  stops_count count s u i (Ok x) t v j (over, same, still) = same_count s t same
-  stops_count count s u i (Err SourceFailed) t v j (fails, same, still) = same_count s t same
-  stops_count count s u i (Err TooMuch) t v j (all, same, still, end) = same_count s t same
-  stops_count count s u i (Err (Refused e)) t v j (piece, gives, wrote) = piece_count u v piece s t (Err e) wrote
+  stops_count : (count : ℕ) (p : Feed S F) (r : Result Unit Stop) (q : Feed S F) → Stops view writes count p r q → Counts p.store q.store
+  stops_count count p (Ok x) q (over, same, still) = same_count p.store q.store same
+  stops_count count p (Err SourceFailed) q (fails, same, still) = same_count p.store q.store same
+  stops_count count p (Err TooMuch) q (all, same) = same_count p.store q.store (ap (λ (x : Feed S F). x.store) same)
+  stops_count count p (Err (Refused e)) q (piece, gives, wrote) = piece_count p.upload q.upload piece p.store q.store (Err e) wrote
 
-  pours_count : (s : S) (u : Upload F) (i : Stream) (r : Result Unit Stop) (t : S) (v : Upload F) (j : Stream) → Pours view writes s u i r t v j → Counts s t
-  pours_count s u i r t v j p = counts_then s p.place t (fed_count s u i p.count p.bytes p.place p.upload p.left p.fed) (stops_count p.count p.place p.upload p.left r t v j p.stops)
+  pours_count : (p : Feed S F) (r : Result Unit Stop) (q : Feed S F) → Pours view writes p r q → Counts p.store q.store
+  pours_count p r q k = counts_then p.store k.middle.store q.store (fed_count p k.count k.bytes k.middle k.fed) (stops_count k.count k.middle r q k.stops)
 
-  pours_rose : (s : S) (u : Upload F) (i : Stream) (e : UploadError) (t : S) (v : Upload F) (j : Stream) → e ≡ Failure → Pours view writes s u i (Err (Refused e)) t v j → Rises s t
-  pours_rose s u i e t v j failed p =
-      let (piece, gives, wrote) = p.stops in
-      later s p.place t (fed_count s u i p.count p.bytes p.place p.upload p.left p.fed) (piece_rose p.upload v piece p.place t e failed wrote)
+  pours_rose : (p : Feed S F) (e : UploadError) (q : Feed S F) → e ≡ Failure → Pours view writes p (Err (Refused e)) q → Rises p.store q.store
+  pours_rose p e q failed k =
+      let (piece, gives, wrote) = k.stops in
+      later p.store k.middle.store q.store (fed_count p k.count k.bytes k.middle k.fed) (piece_rose k.middle.upload q.upload piece k.middle.store q.store e failed wrote)
 
   -- ---- ends
 
@@ -228,17 +228,20 @@ module _ {S C F L E : Type 0} (view : View S C F) (lists : Listings S C L E) (wr
   aborts_count : (u : Upload F) (s : S) (r : Result Unit UploadError) (t : S) → Aborts view c u s r t → Counts s t
   aborts_count u s r t a = counts_then s a.closed t (closed_count s a.closed u.file a.closes) a.keeps.counts
 
-  stores_rose : (target : WebPath) (fields : Fields) (first : ℕ) (s : S) (i : Stream) (e : UploadError) (t : S) (j : Stream) → e ≡ Failure → Stores view writes c target fields first s i (Err (Refused e)) t j → Rises s t
-  stores_rose target fields first s i e t j failed (inl (f, begins, is, unasked)) =
+  -- an upload that began, from where the input goes into it to where it did
+  fed_rose : (fields : Fields) (p q : Feed S F) (r : Result Unit Stop) (e : UploadError) (t : S) → e ≡ Failure → Pours view writes p r q → Ends view writes c r q.upload fields q.store (Err (Refused e)) t → Rises p.store t
+  fed_rose fields p q (Ok x) e t failed poured commits = later p.store q.store t (pours_count p (Ok x) q poured) (commits_rose q.upload fields q.store e t failed commits)
+  fed_rose fields p q (Err stop) e t failed poured (answer, aborts, is) =
+      let why : stop ≡ Refused e = cc in
+      sooner p.store q.store t (pours_rose p e q failed (subst (λ x. Pours view writes p (Err x) q) why poured)) (aborts_count q.upload q.store answer t aborts)
+
+  stores_rose : (aim : Aim) (s : S) (i : Stream) (e : UploadError) (t : S) (j : Stream) → e ≡ Failure → Stores view writes c aim s i (Err (Refused e)) t j → Rises s t
+  stores_rose aim s i e t j failed (inl (f, begins, is, unasked)) =
       let why : f ≡ Failure = (let g : e ≡ f = cc in sym g ∙ failed) in
-      some_rose target fields first s f t why begins
-  stores_rose target fields first s i e t j failed (inr (u, v, m, n, r, begins, pours, ended)) = later s m t (some_count target fields first s (Ok u) m begins) (by r pours ended)
-    where
-      by : (r : Result Unit Stop) → Pours view writes m u i r n v j → Ends view writes c r v fields n (Err (Refused e)) t → Rises m t
-      by (Ok x) poured commits = later m n t (pours_count m u i (Ok x) n v j poured) (commits_rose v fields n e t failed commits)
-      by (Err stop) poured (answer, aborts, is) =
-          let why : stop ≡ Refused e = cc in
-          sooner m n t (pours_rose m u i e n v j failed (subst (λ x. Pours view writes m u i (Err x) n v j) why poured)) (aborts_count v n answer t aborts)
+      some_rose aim s f t why begins
+  stores_rose aim s i e t j failed (inr k) =
+      later s k.begun t (some_count aim s (Ok k.upload) k.begun k.begins)
+      (fed_rose aim.fields (record { store = k.begun; upload = k.upload; source = i }) (record { store = k.full; upload = k.left; source = j }) k.poured e t failed k.pours k.ends)
 
   -- ---- sweeps
 
@@ -268,11 +271,11 @@ module _ {S C F L E : Type 0} (view : View S C F) (lists : Listings S C L E) (wr
   stored_rose target first s i ending t j failed (inl (root, is, same, left)) = cc
   stored_rose target first s i ending t j failed (inr (named, result, stores, is)) = by result stores (sym is ∙ failed)
     where
-      by : (result : Result Outcome Stop) → Stores view writes c target [] first s i result t j → ending_for result ≡ ends.DiskFailed → Rises s t
+      by : (result : Result Outcome Stop) → Stores view writes c (record { target = target; fields = []; token = first }) s i result t j → ending_for result ≡ ends.DiskFailed → Rises s t
       by (Ok outcome) run e = cc
       by (Err SourceFailed) run e = cc
       by (Err TooMuch) run e = cc
-      by (Err (Refused error)) run e = stores_rose target [] first s i error t j (failed_end error e) run
+      by (Err (Refused error)) run e = stores_rose (record { target = target; fields = []; token = first }) s i error t j (failed_end error e) run
 
   pub swept_rose : (dir : WebPath) (limit : FileTime) (s : S) (ending : Ending) (t : S) → ending ≡ ends.DiskFailed → SweepsAt view lists writes c dir limit s ending t → Rises s t
   swept_rose dir limit s ending t failed (result, sweeps, is) = by result sweeps (sym is ∙ failed)

@@ -9,7 +9,7 @@ use Rattle.dav_walks.proofs.calls.KeptOpen.{but_same, but_then}
 use Rattle.dav_upload.specs.declared.upload.Upload.{Upload}
 use Rattle.dav_upload.specs.Pieces.{KeepsUpload}
 use Rattle.dav_upload.specs.Uploading.{WritesPiece}
-use Rattle.dav_put.specs.Storing.{Fed, Gives, IsOver}
+use Rattle.dav_put.specs.Storing.{Fed, Feed, Gives, IsOver}
 use Rattle.dav_put.specs.Storing.Fed.{begun, goes}
 
 -- ---- what stays open
@@ -37,17 +37,17 @@ over_taken i j buffer n none takes = (buffer, subst (λ k. Takes i buffer (Ok k)
 
 module _ {S C F : Type 0} (view : View S C F) (writes : Writes F) where
   -- so many pieces went into the upload, from where it began
-  pub record SoFar (count : ℕ) (s : S) (u : Upload F) (i : Stream) (t : S) (v : Upload F) (j : Stream) : Type 0 where
+  pub record SoFar (count : ℕ) (p q : Feed S F) : Type 0 where
     pub bytes : List ℕ
-    pub fed : Fed view writes s u i count bytes t v j
+    pub fed : Fed view writes p count bytes q
 
-  pub none_yet : (s : S) (u : Upload F) (i : Stream) → SoFar 0 s u i s u i
-  none_yet s u i = record { bytes = []; fed = begun }
+  pub none_yet : (p : Feed S F) → SoFar 0 p p
+  none_yet p = record { bytes = []; fed = begun }
 
-  pub one_more : (count : ℕ) (s m t : S) (u x y : Upload F) (i j k : Stream) (piece bytes : List ℕ) → SoFar count s u i m x j → Gives j piece k → bytes ≡ piece → WritesPiece view writes x bytes m (Ok tt) t y → SoFar (count + 1) s u i t y k
-  one_more count s m t u x y i j k piece bytes far gives same piece_so = record {
+  pub one_more : (count : ℕ) (p m n : Feed S F) (piece bytes : List ℕ) → SoFar count p m → Gives m.source piece n.source → bytes ≡ piece → WritesPiece view writes m.upload bytes m.store (Ok tt) n.store n.upload → SoFar (count + 1) p n
+  one_more count p m n piece bytes far gives same piece_so = record {
     bytes = far.bytes ++ piece;
-    fed = goes count far.bytes piece m t x y j k far.fed gives (subst (λ b. WritesPiece view writes x b m (Ok tt) t y) same piece_so);
+    fed = goes count far.bytes piece m n far.fed gives (subst (λ b. WritesPiece view writes m.upload b m.store (Ok tt) n.store n.upload) same piece_so);
   }
 
   -- what calls of the store keep of it, and of the upload

@@ -19,7 +19,7 @@ use Rattle.dav_upload.specs.declared.error.UploadError.TheVariants.{Busy}
 use Rattle.dav_upload.specs.declared.upload.Upload.{Upload}
 use Rattle.dav_upload.specs.Names.{begins_hidden, hidden_beside, hidden_name, is_digit, is_hidden, is_hidden_path, is_taken}
 use Rattle.dav_upload.specs.Shown.{IsCommitted, SameShown}
-use Rattle.dav_upload.specs.Standing.{StandsIn}
+use Rattle.dav_upload.specs.Standing.{StandsIn, pending}
 use Rattle.dav_upload.specs.Steps.{Committed, IsBeside, IsClear, SameLinks}
 use Rattle.dav_upload.specs.Takes.{TakesUploads}
 use Rattle.dav_upload.specs.Uploading.{Aborts, AfterJudging, Begins, BeginsAs, Commits, Judges, PieceOn, WritesPiece, begun as upload_begun}
@@ -29,7 +29,7 @@ use Rattle.dav_upload.proofs.Making.{kept_unseen}
 use Rattle.dav_upload.proofs.Tokens.{token_hides}
 use Rattle.dav_put.specs.declared.storing.Stop.{Stop}
 use Rattle.dav_put.specs.declared.storing.Stop.TheVariants.{Refused, SourceFailed, TooMuch}
-use Rattle.dav_put.specs.Storing.{Ends, Fed, Gives, IsOver, Pours, Stops, Stores, Tried, token_after}
+use Rattle.dav_put.specs.Storing.{Aim, Ends, Fed, Feed, Gives, IsOver, Pours, Stops, Stores, Tried, token_after}
 use Rattle.dav_put.specs.Storing.Fed.{begun, goes}
 use Rattle.dav_put.specs.Storing.Tried.{more, none}
 use Rattle.dav_put.specs.Whole.{IsOpenTo, StoredWhole}
@@ -110,10 +110,10 @@ module _ {S C F : Type 0} (view : View S C F) (writes : Writes F) (c : C) (test 
       by false (inl (same, is)) = waits_same v s t same x
       by false (inr j) = by_may j.judged (judged_waits v target fields token s t (Err e) x j) j.may j.opens
 
-  tried_waits : (v : World) (target : WebPath) (fields : Fields) (first : ℕ) (s : S) (tries : ℕ) (t : S) → IsOpenTo v target.names → Waits v s → Tried view writes c target fields first s tries t → Waits v t
-  tried_waits v target fields first s tries t clear x none = x
-  tried_waits v target fields first s tries t clear x (more count name m n before begins) =
-      refused_waits v target fields (token_after first count) m t (Busy name) clear (tried_waits v target fields first s count m clear x before) begins
+  tried_waits : (v : World) (aim : Aim) (s : S) (tries : ℕ) (t : S) → IsOpenTo v aim.target.names → Waits v s → Tried view writes c aim s tries t → Waits v t
+  tried_waits v aim s tries t clear x none = x
+  tried_waits v aim s tries t clear x (more count name m n before begins) =
+      refused_waits v aim.target aim.fields (token_after aim.token count) m t (Busy name) clear (tried_waits v aim s count m clear x before) begins
 
   -- What is known where an upload began and pieces were written.
   record Going (v : World) (target : WebPath) (pieces : List ℕ) (m : S) (u : Upload F) : Type 0 where
@@ -125,7 +125,7 @@ module _ {S C F : Type 0} (view : View S C F) (writes : Writes F) (c : C) (test 
     pub at_target : u.target ≡ target
     pub token : ℕ
     pub at_hidden : u.hidden ≡ hidden_beside target token
-    pub stands : StandsIn each_counts (view.state m).live world u.hidden.names (view.file.handle u.file) u.broken pieces
+    pub stands : StandsIn each_counts (view.state m).live world (pending view.file.handle u pieces)
     pub free : is_taken target ≡ false
 
   begun_going : (v : World) (target : WebPath) (fields : Fields) (token : ℕ) (s t : S) (u : Upload F) → IsOpenTo v target.names → Waits v s → Begins view c target fields token s (Ok u) t
@@ -195,19 +195,19 @@ module _ {S C F : Type 0} (view : View S C F) (writes : Writes F) (c : C) (test 
       by false e (Ok y, file, writes_so, is, answer) = ap (λ (z : Upload F). z.broken) is
       by false e (Err y, file, writes_so, is, answer) = cc
 
-  fed_going : (v : World) (target : WebPath) (s : S) (u : Upload F) (i : Stream) → u.broken ≡ false → Going v target [] s u → (t : S) (x : Upload F) (j : Stream) (count : ℕ) (bytes : List ℕ) → Fed view writes s u i count bytes t x j
-      → Going v target bytes t x × (x.broken ≡ false)
-  fed_going v target s u i whole g t x j count bytes begun = (g, whole)
-  fed_going v target s u i whole g t x j count bytes (goes before_count front piece m n y z a b before gives piece_so) =
-      let (here, still) = fed_going v target s u i whole g m y a before_count front before in
-      (piece_going v target front piece m t y x (Ok tt) still here piece_so, still_whole piece m t y x still piece_so)
+  fed_going : (v : World) (target : WebPath) (p : Feed S F) → p.upload.broken ≡ false → Going v target [] p.store p.upload → (count : ℕ) (bytes : List ℕ) (q : Feed S F) → Fed view writes p count bytes q
+      → Going v target bytes q.store q.upload × (q.upload.broken ≡ false)
+  fed_going v target p whole g count bytes q begun = (g, whole)
+  fed_going v target p whole g count bytes q (goes before_count front piece m n before gives piece_so) =
+      let (here, still) = fed_going v target p whole g before_count front m before in
+      (piece_going v target front piece m.store n.store m.upload n.upload (Ok tt) still here piece_so, still_whole piece m.store n.store m.upload n.upload still piece_so)
 
-  fed_gave : (s : S) (u : Upload F) (i : Stream) (all : List ℕ) → i.bytes ≡ Some all → (t : S) (x : Upload F) (j : Stream) (count : ℕ) (bytes : List ℕ) → Fed view writes s u i count bytes t x j
-      → (rest : List ℕ) × (j.bytes ≡ Some rest) × (all ≡ bytes ++ rest)
-  fed_gave s u i all told t x j count bytes begun = (all, told, refl)
-  fed_gave s u i all told t x j count bytes (goes before_count front piece m n y z a b before gives piece_so) =
-      let (mid, there, is) = fed_gave s u i all told m y a before_count front before in
-      let (rest, end, more_is) = gave a j piece mid there gives in
+  fed_gave : (p : Feed S F) (all : List ℕ) → p.source.bytes ≡ Some all → (count : ℕ) (bytes : List ℕ) (q : Feed S F) → Fed view writes p count bytes q
+      → (rest : List ℕ) × (q.source.bytes ≡ Some rest) × (all ≡ bytes ++ rest)
+  fed_gave p all told count bytes q begun = (all, told, refl)
+  fed_gave p all told count bytes q (goes before_count front piece m n before gives piece_so) =
+      let (mid, there, is) = fed_gave p all told before_count front m before in
+      let (rest, end, more_is) = gave m.source n.source piece mid there gives in
       (rest, end, is ∙ (ap (λ k. front ++ k) more_is ∙ sym (append_assoc front piece rest)))
 
   -- ---- the end
@@ -263,34 +263,36 @@ module _ {S C F : Type 0} (view : View S C F) (writes : Writes F) (c : C) (test 
     refused_whole bytes pieces m u stop result g answer aborts is =
         subst (λ z. StoredWhole target.names bytes z v w) (sym is) (stopped_whole bytes stop (given_up v target pieces m t w u answer now clear g aborts))
 
-    module _ (s : S) (u : Upload F) (i : Stream) (bytes : List ℕ) (told : i.bytes ≡ Some bytes) (result : Result Outcome Stop) where
-      poured_whole : (n : S) (x : Upload F) (j : Stream) (r : Result Unit Stop) → u.broken ≡ false → Going v target [] s u → (p : Pours view writes s u i r n x j) → Ends view writes c r x fields n result t
+    module _ (p : Feed S F) (bytes : List ℕ) (told : p.source.bytes ≡ Some bytes) (result : Result Outcome Stop) where
+      poured_whole : (q : Feed S F) (r : Result Unit Stop) → p.upload.broken ≡ false → Going v target [] p.store p.upload → (k : Pours view writes p r q) → Ends view writes c r q.upload fields q.store result t
           → StoredWhole target.names bytes result v w
-      poured_whole n x j r whole g p ends = by r p.stops ends
+      poured_whole q r whole g k ends = by r k.stops ends
         where
-          far : Going v target p.bytes p.place p.upload × (p.upload.broken ≡ false)
-          far = fed_going v target s u i whole g p.place p.upload p.left p.count p.bytes p.fed
+          far : Going v target k.bytes k.middle.store k.middle.upload × (k.middle.upload.broken ≡ false)
+          far = fed_going v target p whole g k.count k.bytes k.middle k.fed
 
-          moved : (m : S) (y : Upload F) (pieces : List ℕ) → m ≡ p.place → y ≡ p.upload → Going v target pieces p.place p.upload → Going v target pieces m y
-          moved m y pieces same like h = subst (λ a. Going v target pieces a y) (sym same) (subst (λ b. Going v target pieces p.place b) (sym like) h)
+          moved : (m : S) (y : Upload F) → m ≡ k.middle.store → y ≡ k.middle.upload → Going v target k.bytes m y
+          moved m y same like = subst (λ a. Going v target k.bytes a y) (sym same) (subst (λ b. Going v target k.bytes k.middle.store b) (sym like) far.0)
 
-          by : (r : Result Unit Stop) → Stops view writes p.count p.place p.upload p.left r n x j → Ends view writes c r x fields n result t → StoredWhole target.names bytes result v w
+          by : (r : Result Unit Stop) → Stops view writes k.count k.middle r q → Ends view writes c r q.upload fields q.store result t → StoredWhole target.names bytes result v w
           by (Ok y) (over, same, like) ends =
-              let (rest, left, is) = fed_gave s u i bytes told p.place p.upload p.left p.count p.bytes p.fed in
-              let all : bytes ≡ p.bytes = is ∙ (ap (λ k. p.bytes ++ k) (was_over p.left j rest left over) ∙ append-nil p.bytes) in
+              let (rest, left, is) = fed_gave p bytes told k.count k.bytes k.middle k.fed in
+              let all : bytes ≡ k.bytes = is ∙ (ap (λ x. k.bytes ++ x) (was_over k.middle.source q.source rest left over) ∙ append-nil k.bytes) in
               subst (λ b. StoredWhole target.names b result v w) (sym all)
-              (committed_whole p.bytes n x result (ap (λ (z : Upload F). z.broken) like ∙ far.1) (moved n x p.bytes same like far.0) ends)
-          by (Err SourceFailed) (fails, same, like) (answer, aborts, is) = refused_whole bytes p.bytes n x SourceFailed result (moved n x p.bytes same like far.0) answer aborts is
-          by (Err TooMuch) (full, same, like, still) (answer, aborts, is) = refused_whole bytes p.bytes n x TooMuch result (moved n x p.bytes same like far.0) answer aborts is
+              (committed_whole k.bytes q.store q.upload result (ap (λ (z : Upload F). z.broken) like ∙ far.1) (moved q.store q.upload same like) ends)
+          by (Err SourceFailed) (fails, same, like) (answer, aborts, is) = refused_whole bytes k.bytes q.store q.upload SourceFailed result (moved q.store q.upload same like) answer aborts is
+          by (Err TooMuch) (full, same) (answer, aborts, is) =
+              refused_whole bytes k.bytes q.store q.upload TooMuch result (moved q.store q.upload (ap (λ (x : Feed S F). x.store) same) (ap (λ (x : Feed S F). x.upload) same)) answer aborts is
           by (Err (Refused e)) (piece, gives, piece_so) (answer, aborts, is) =
-              refused_whole bytes (p.bytes ++ piece) n x (Refused e) result (piece_going v target p.bytes piece p.place n p.upload x (Err e) far.1 far.0 piece_so) answer aborts is
+              refused_whole bytes (k.bytes ++ piece) q.store q.upload (Refused e) result (piece_going v target k.bytes piece k.middle.store q.store k.middle.upload q.upload (Err e) far.1 far.0 piece_so) answer aborts is
 
-  pub stored_whole : (target : WebPath) (fields : Fields) (first : ℕ) (s t : S) (i j : Stream) (result : Result Outcome Stop) (v w : World) (bytes : List ℕ) → target.names ≢ [] → (view.state s).told ≡ Some v → (view.state t).told ≡ Some w
-      → i.bytes ≡ Some bytes → IsOpenTo v target.names → test s ≡ true → Stores view writes c target fields first s i result t j → StoredWhole target.names bytes result v w
-  stored_whole target fields first s t i j result v w bytes named was now told clear plain (inl (e, b, is, unasked)) =
-      let x = refused_waits v target fields (token_after first b.tries) b.middle t e clear (tried_waits v target fields first s b.tries b.middle clear (waits_at v s was plain) b.tried) b.begins in
+  pub stored_whole : (aim : Aim) (s t : S) (i j : Stream) (result : Result Outcome Stop) (v w : World) (bytes : List ℕ) → aim.target.names ≢ [] → (view.state s).told ≡ Some v → (view.state t).told ≡ Some w
+      → i.bytes ≡ Some bytes → IsOpenTo v aim.target.names → test s ≡ true → Stores view writes c aim s i result t j → StoredWhole aim.target.names bytes result v w
+  stored_whole aim s t i j result v w bytes named was now told clear plain (inl (e, b, is, unasked)) =
+      let x = refused_waits v aim.target aim.fields (token_after aim.token b.tries) b.middle t e clear (tried_waits v aim s b.tries b.middle clear (waits_at v s was plain) b.tried) b.begins in
       let same : x.world ≡ w = one_told (view.state t).told x.world w x.here now in
-      subst (λ z. StoredWhole target.names bytes z v w) (sym is) (inl (subst (SameShown v) same (kept_unseen v x.world x.same)))
-  stored_whole target fields first s t i j result v w bytes named was now told clear plain (inr (u, x, m, n, r, b, pours, ends)) =
-      let begun_so = begun_going v target fields (token_after first b.tries) b.middle m u clear (tried_waits v target fields first s b.tries b.middle clear (waits_at v s was plain) b.tried) b.begins in
-      poured_whole target fields named v clear t w now m u i bytes told result n x j r begun_so.1 begun_so.0 pours ends
+      subst (λ z. StoredWhole aim.target.names bytes z v w) (sym is) (inl (subst (SameShown v) same (kept_unseen v x.world x.same)))
+  stored_whole aim s t i j result v w bytes named was now told clear plain (inr k) =
+      let b = k.begins in
+      let begun_so = begun_going v aim.target aim.fields (token_after aim.token b.tries) b.middle k.begun k.upload clear (tried_waits v aim s b.tries b.middle clear (waits_at v s was plain) b.tried) b.begins in
+      poured_whole aim.target aim.fields named v clear t w now (record { store = k.begun; upload = k.upload; source = i }) bytes told result (record { store = k.full; upload = k.left; source = j }) k.poured begun_so.1 begun_so.0 k.pours k.ends

@@ -30,7 +30,8 @@ module _ {S C F L E : Type 0} (view : View S C F) (lists : Listings S C L E) (wr
   abbrev pub StoresAt : WebPath → ℕ → S → Stream → Ending → S → Stream → Type 0
   StoresAt target first s i ending t j = ((target.names ≡ []) × (ending ≡ Refused 405) × (t ≡ s) × (j ≡ i))
       ⊎ ((target.names ≢ []) × (result : Result Outcome Stop)
-      × Stores view writes c target [] first s i result t j × (ending ≡ ending_for result))
+      × Stores view writes c (record { target = target; fields = []; token = first }) s i result t j
+      × (ending ≡ ending_for result))
 
   -- What was left in a directory before a time is removed.
   abbrev pub SweepsAt : WebPath → FileTime → S → Ending → S → Type 0

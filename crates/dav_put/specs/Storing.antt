@@ -26,32 +26,43 @@ IsOver i j = (buffer : List ℕ) × Takes i buffer (Ok 0) j
 abbrev pub Fails : Stream → Stream → Type 0
 Fails i j = (buffer : List ℕ) × (failed : Failed) × Takes i buffer (Err failed) j
 
+-- where an input goes into an upload: the store, the upload and the source
+pub record Feed (S F : Type 0) : Type 0 where
+  pub store : S
+  pub upload : Upload F
+  pub source : Stream
+
 module _ {S C F : Type 0} (view : View S C F) (writes : Writes F) where
   -- So many pieces that a source gave were written, each as it came: these bytes in all.
-  pub data Fed (s : S) (u : Upload F) (i : Stream) : ℕ → List ℕ → S → Upload F → Stream → Type 0 where
-    begun : Fed s u i 0 [] s u i
-    goes : (count : ℕ) (bytes piece : List ℕ) (m n : S) (x y : Upload F) (j k : Stream) → Fed s u i count bytes m x j
-        → Gives j piece k → WritesPiece view writes x piece m (Ok tt) n y → Fed s u i (count + 1) (bytes ++ piece) n y k
+  pub data Fed (p : Feed S F) : ℕ → List ℕ → Feed S F → Type 0 where
+    begun : Fed p 0 [] p
+    goes : (count : ℕ) (bytes piece : List ℕ) (m n : Feed S F) → Fed p count bytes m → Gives m.source piece n.source
+        → WritesPiece view writes m.upload piece m.store (Ok tt) n.store n.upload
+        → Fed p (count + 1) (bytes ++ piece) n
 
   -- Behind so many pieces the source is at its end, failed, or gave as many as are counted; or a piece that it gave was
   -- refused.
-  abbrev pub Stops : ℕ → S → Upload F → Stream → Result Unit Stop → S → Upload F → Stream → Type 0
-  Stops count s u i (Ok x) t v j = IsOver i j × (t ≡ s) × (v ≡ u)
-  Stops count s u i (Err SourceFailed) t v j = Fails i j × (t ≡ s) × (v ≡ u)
-  Stops count s u i (Err TooMuch) t v j = (count ≡ 2 ^ 64 - 1) × (t ≡ s) × (v ≡ u) × (j ≡ i)
-  Stops count s u i (Err (Refused e)) t v j = (piece : List ℕ) × Gives i piece j
-      × WritesPiece view writes u piece s (Err e) t v
+  abbrev pub Stops : ℕ → Feed S F → Result Unit Stop → Feed S F → Type 0
+  Stops count p (Ok x) q = IsOver p.source q.source × (q.store ≡ p.store) × (q.upload ≡ p.upload)
+  Stops count p (Err SourceFailed) q = Fails p.source q.source × (q.store ≡ p.store) × (q.upload ≡ p.upload)
+  Stops count p (Err TooMuch) q = (count ≡ 2 ^ 64 - 1) × (q ≡ p)
+  Stops count p (Err (Refused e)) q = (piece : List ℕ) × Gives p.source piece q.source
+      × WritesPiece view writes p.upload piece p.store (Err e) q.store q.upload
 
   -- An input goes into an upload, up to its end or the first refusal.
-  pub record Pours (s : S) (u : Upload F) (i : Stream) (result : Result Unit Stop) (t : S) (v : Upload F) (j : Stream)
-      : Type 0 where
+  pub record Pours (p : Feed S F) (result : Result Unit Stop) (q : Feed S F) : Type 0 where
     pub count : ℕ
     pub bytes : List ℕ
-    pub place : S
-    pub upload : Upload F
-    pub left : Stream
-    pub fed : Fed s u i count bytes place upload left
-    pub stops : Stops count place upload left result t v j
+    pub middle : Feed S F
+    pub fed : Fed p count bytes middle
+    pub stops : Stops count middle result q
+
+-- Where an input is to be stored: at a path, as a PUT with these fields may, and with a hidden name of this token, or of
+-- those behind it.
+pub record Aim : Type 0 where
+  pub target : WebPath
+  pub fields : Fields
+  pub token : ℕ
 
 -- the hidden name of a token stands already
 abbrev pub is_busy : UploadError → Bool
@@ -64,21 +75,20 @@ token_after first tries = (first + tries) % 2 ^ 64
 
 module _ {S C F : Type 0} (view : View S C F) (writes : Writes F) (c : C) where
   -- Uploads of the target with so many tokens were refused, since their hidden names stand.
-  pub data Tried (target : WebPath) (fields : Fields) (first : ℕ) (s : S) : ℕ → S → Type 0 where
-    none : Tried target fields first s 0 s
-    more : (tries : ℕ) (name : List ℕ) (m n : S) → Tried target fields first s tries m
-        → Begins view c target fields (token_after first tries) m (Err (Busy name)) n
-        → Tried target fields first s (tries + 1) n
+  pub data Tried (aim : Aim) (s : S) : ℕ → S → Type 0 where
+    none : Tried aim s 0 s
+    more : (tries : ℕ) (name : List ℕ) (m n : S) → Tried aim s tries m
+        → Begins view c aim.target aim.fields (token_after aim.token tries) m (Err (Busy name)) n
+        → Tried aim s (tries + 1) n
 
   -- An upload began with a token, or was refused, after others whose hidden names stood: 16 of them, where that was the
   -- last refusal too.
-  pub record BeginsSome (target : WebPath) (fields : Fields) (first : ℕ) (s : S) (result : Result (Upload F) UploadError)
-      (t : S) : Type 0 where
+  pub record BeginsSome (aim : Aim) (s : S) (result : Result (Upload F) UploadError) (t : S) : Type 0 where
     pub tries : ℕ
     pub few : tries ≤ 16
     pub middle : S
-    pub tried : Tried target fields first s tries middle
-    pub begins : Begins view c target fields (token_after first tries) middle result t
+    pub tried : Tried aim s tries middle
+    pub begins : Begins view c aim.target aim.fields (token_after aim.token tries) middle result t
     pub last : (name : List ℕ) → result ≡ Err (Busy name) → tries ≡ 16
 
   -- What follows where the input went into the upload, or not: it is committed, or given up.
@@ -90,8 +100,21 @@ module _ {S C F : Type 0} (view : View S C F) (writes : Writes F) (c : C) where
   Ends (Err stop) u fields s result t = (answer : Result Unit UploadError) × Aborts view c u s answer t
       × (result ≡ Err stop)
 
+  -- An upload begins, the input goes into it, and then it ends.
+  pub record StoresBegun (aim : Aim) (s : S) (i : Stream) (result : Result Outcome Stop) (t : S) (j : Stream)
+      : Type 0 where
+    pub upload : Upload F
+    pub begun : S
+    pub begins : BeginsSome aim s (Ok upload) begun
+    pub poured : Result Unit Stop
+    pub full : S
+    pub left : Upload F
+    pub pours : Pours view writes (record { store = begun; upload = upload; source = i }) poured
+        (record { store = full; upload = left; source = j })
+    pub ends : Ends poured left aim.fields full result t
+
   -- An input is stored by an upload that begins with it. Where none begins the source isn't asked.
-  abbrev pub Stores : WebPath → Fields → ℕ → S → Stream → Result Outcome Stop → S → Stream → Type 0
-  Stores target fields first s i result t j = ((e : UploadError) × BeginsSome target fields first s (Err e) t × (result ≡ Err (Refused e)) × (j ≡ i))
-      ⊎ ((u : Upload F) × (v : Upload F) × (m : S) × (n : S) × (r : Result Unit Stop) × BeginsSome target fields first s (Ok u) m
-      × Pours view writes m u i r n v j × Ends r v fields n result t)
+  abbrev pub Stores : Aim → S → Stream → Result Outcome Stop → S → Stream → Type 0
+  Stores aim s i result t j =
+      ((e : UploadError) × BeginsSome aim s (Err e) t × (result ≡ Err (Refused e)) × (j ≡ i))
+      ⊎ StoresBegun aim s i result t j

@@ -54,7 +54,8 @@ fn begin_some<S: GuardedFileSystem<C>, C>(
     fields: &HeaderMap,
     first: u64,
 ) -> Result<Upload<S::File>, UploadError>
-    ensures begins { BeginsSome S.view S.File.view.writes credentials.now path.now fields.now first fs.old result fs.new }
+    ensures begins { BeginsSome S.view S.File.view.writes credentials.now
+        (record { target = path.now; fields = fields.now; token = first }) fs.old result fs.new }
     ensures live { IfOk result (λ u. IsSome ((S.view.state fs.new).live (S.view.file.handle u.file))) }
     ensures reads_from { IfOk result (λ u. S.view.file.reads_from u.file (S.view.state fs.new)) }
 {
@@ -84,8 +85,9 @@ fn pour<S: GuardedFileSystem<C>, C, R: Source>(
     requires live { IsSome ((S.view.state fs.old).live (S.view.file.handle upload.old.file)) }
     requires reads_from { S.view.file.reads_from upload.old.file (S.view.state fs.old) }
     requires room { 0 < length buffer.old }
-    ensures pours { Pours S.view S.File.view.writes fs.old upload.old (R.stream source.old) result fs.new upload.new
-        (R.stream source.new) }
+    ensures pours { Pours S.view S.File.view.writes
+        (record { store = fs.old; upload = upload.old; source = R.stream source.old }) result
+        (record { store = fs.new; upload = upload.new; source = R.stream source.new }) }
     ensures stays { StaysBy S.view (KeepsUpload (S.view.file.handle upload.old.file) (S.view.file.handle upload.new.file)) fs.old
         fs.new }
 {
@@ -140,9 +142,12 @@ fn store_by<S: GuardedFileSystem<C>, C, R: Source>(
     buffer: &mut [u8],
 ) -> Result<Outcome, Stop>
     requires room { 0 < length buffer.old }
-    ensures table { Stores S.view S.File.view.writes credentials.now destination.now.path.now
-        destination.now.fields.now destination.now.token fs.old (R.stream source.old) result fs.new
-        (R.stream source.new) }
+    ensures table { Stores S.view S.File.view.writes credentials.now (record {
+      target = destination.now.path.now;
+      fields = destination.now.fields.now;
+      token = destination.now.token;
+    }) fs.old (R.stream source.old) result
+        fs.new (R.stream source.new) }
 {
     let fields = destination.fields;
     match begin_some(
@@ -177,9 +182,12 @@ pub fn store<S: GuardedFileSystem<C>, C, R: Source>(
 ) -> Result<Outcome, Stop>
     requires room { 0 < length buffer.old }
     requires named { destination.now.path.now.names ≢ [] }
-    ensures table { Stores S.view S.File.view.writes credentials.now destination.now.path.now
-        destination.now.fields.now destination.now.token fs.old (R.stream source.old) result fs.new
-        (R.stream source.new) }
+    ensures table { Stores S.view S.File.view.writes credentials.now (record {
+      target = destination.now.path.now;
+      fields = destination.now.fields.now;
+      token = destination.now.token;
+    }) fs.old (R.stream source.old) result
+        fs.new (R.stream source.new) }
     ensures whole { (test : S → Bool) → TakesUploads S.view S.File.view.writes credentials.now test → test fs.old ≡ true
         → (v w : World) (bytes : List ℕ) → (S.view.state fs.old).told ≡ Some v → (S.view.state fs.new).told ≡ Some w
         → (R.stream source.old).bytes ≡ Some bytes → IsOpenTo v destination.now.path.now.names

@@ -8,7 +8,7 @@ tokens-init g c = record { tried = none; token = omega (arith, c.ranges.first) }
 
 pub tokens-preserved : goal.tokens-preserved
 tokens-preserved g c = record {
-  tried = one_more_busy g.S.GuardedFileSystem.view g.S.File.DavFile.view.writes _ _ _ _ _ _ _ _ _ _ c.tokens.invariant.tried c.tokens.invariant.token (sym c.is_busy.ensures ∙ c.if-not-is_busy.false) c.in-Err.ensures.table;
+  tried = one_more_busy g.S.GuardedFileSystem.view g.S.File.DavFile.view.writes _ _ _ _ _ _ _ _ c.tokens.invariant.tried c.tokens.invariant.token (sym c.is_busy.ensures ∙ c.if-not-is_busy.false) c.in-Err.ensures.table;
   token = omega (arith, c.tokens.invariant.token);
 }
 
