@@ -52,11 +52,17 @@ next_most_of [] room = 0
 next_most_of (Text bytes ∷ parts) room = length bytes
 next_most_of (SliceOf slice ∷ parts) room = min slice.count room
 
+-- the most bytes of the file that the next piece may have: a text has its own memory
+abbrev pub read_most_of : List BodyPart → ℕ → ℕ
+read_most_of [] room = 0
+read_most_of (Text bytes ∷ parts) room = 0
+read_most_of (SliceOf slice ∷ parts) room = min slice.count room
+
 -- memory of this length and capacity that is ready for the next piece, of a body with these parts left and a buffer of
 -- this size
 pub record IsRoom (left : List BodyPart) (size len capacity : ℕ) : Type 0 where
   pub long : len ≡ size
-  pub most : next_most_of left size ≤ capacity
+  pub most : read_most_of left size ≤ capacity
 
 -- What a body keeps: no part that is left is empty; its file is held where a slice is left, with room for its pieces,
 -- and only while a part is left; the file is live, regular and opened for reading, at the place that is noted.
@@ -175,9 +181,9 @@ IsText [] = ⊥
 IsText (Text bytes ∷ parts) = Unit {0}
 IsText (SliceOf slice ∷ parts) = ⊥
 
--- what is given stands in the body
+-- What is given stands in the body, and a text before what is left.
 abbrev pub IsInside : {F : Type 0} → Given → GetBody F → Type 0
-IsInside (GivenText at) c = IsText (drop at c.parts.items)
+IsInside (GivenText at) c = IsText (drop at c.parts.items) × (at < c.next)
 IsInside (GivenRead n) c = n ≤ length c.buffer.items
 IsInside GivenEnd c = Unit {0}
 IsInside GivenBroken c = Unit {0}

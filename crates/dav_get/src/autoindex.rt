@@ -69,14 +69,13 @@ fn page_fields(alloc: Global) -> Result<Fields, NoMemory>
     Ok(Fields::new(fields))
 }
 
-// The parts of a body of these texts.
-fn text_parts(alloc: Global, texts: &[Text]) -> Result<Vec<BodyPart>, NoMemory>
-    ensures { IfOk result (λ parts. parts.items ≡ map TextPart texts.now) }
+// The parts of a body of these texts. Each is moved.
+fn text_parts(alloc: Global, texts: Vec<Octets>) -> Result<Vec<BodyPart>, NoMemory>
+    ensures { IfOk result (λ parts. parts.items ≡ map TextPart texts.items) }
 {
-    let mut parts = Vec::new(alloc);
+    let mut parts = Vec::with_capacity(alloc, texts.len())?;
     for text in texts {
-        let bytes = Octets::new(Vec::from_slice(alloc, text.as_slice())?);
-        parts.push(BodyPart::Text(bytes))?;
+        parts.push(BodyPart::Text(text))?;
     }
     Ok(parts)
 }
@@ -94,7 +93,7 @@ fn page_body<F>(
         return Ok(GetBody::new(Vec::new(alloc), None, ReadBuffer::none(alloc)));
     }
     let texts = index_page(alloc, asked.path, members)?;
-    let parts = text_parts(alloc, texts.as_slice())?;
+    let parts = text_parts(alloc, texts)?;
     Ok(GetBody::new(parts, None, ReadBuffer::none(alloc)))
 }
 

@@ -1,11 +1,11 @@
-ghost use Rattle.std.specs.Prelude.{◌≡◌, ◌≤◌, ◌<◌, ◌+◌, ◌-◌, ◌^◌, [], ◌∷◌, List, true, vec_len, vec_capacity, length, take, drop, None, IfOk, IfSome, IsSome, max};
+ghost use Rattle.std.specs.Prelude.{◌≡◌, ◌≤◌, ◌<◌, ◌+◌, ◌-◌, ◌^◌, [], ◌∷◌, List, true, false, vec_len, vec_capacity, length, take, drop, None, IfOk, IfSome, IsSome, max};
 ghost use Rattle.std.specs.Borrow.{sem};
 ghost use Rattle.dav_core.specs.Disk.{can_read};
 ghost use Rattle.dav_model.specs.declared.ranges.Slice.{Slice};
 ghost use Rattle.dav_model.specs.declared.answer.Answer.TheVariants.{Piece};
 ghost use Rattle.dav_get.specs.declared.part.BodyPart.{BodyPart};
 ghost use Rattle.dav_get.specs.declared.part.BodyPart.TheVariants.{Text as TextPart, Slice as SlicePart};
-ghost use Rattle.dav_get.specs.Bodies.{left_of, next_most_of, IsHeld, Closes, Passes, passed, answer_of, IsInside, IfPiece, IsRoom, Polls, IsPolled};
+ghost use Rattle.dav_get.specs.Bodies.{left_of, next_most_of, IsHeld, Closes, Passes, is_slice, passed, answer_of, IsInside, IfPiece, IsRoom, Polls, IsPolled};
 ghost use Rattle.dav_get.specs.BodyLent.{EndsPolled, answer_in};
 
 use crate::{BodyPart, OpenAt, ReadBuffer};
@@ -47,17 +47,16 @@ pub(crate) enum Given {
     Broken,
 }
 
-// A piece that is copied into the room for it.
-fn copied(piece: &[u8], room: Vec<u8>) -> Answer
-    requires { length piece.now ≤ vec_capacity room }
-    ensures { result ≡ Piece piece.now }
+// Takes the text out of a part. A slice of no byte stands in its place.
+fn take_text(part: &mut BodyPart) -> Octets
+    requires { is_slice part.old ≡ false }
+    ensures { part.old ≡ TextPart result }
 {
-    let mut bytes = room;
-    bytes.clear();
-    if bytes.extend_from_slice(piece).is_err() {
-        unreachable!("there is room for the piece");
+    let nothing = BodyPart::Slice(Slice { start: 0, count: 0 });
+    match mem::replace(part, nothing) {
+        BodyPart::Text(text) => text,
+        BodyPart::Slice(_) => unreachable!("the part is a text"),
     }
-    Answer::Piece(Octets::new(bytes))
 }
 
 // A piece that is the front of some bytes.
@@ -255,23 +254,19 @@ impl<F> GetBody<F> {
     }
 
     /// Makes the memory of a vector ready for the next piece: it is as long as the body's buffer then, and has room for
-    /// the piece.
+    /// a piece of the file. A text is given in its own memory.
     pub fn make_room(&self, spare: Vec<u8>) -> Result<Vec<u8>, NoMemory>
         ensures { IfOk result (λ room. IsRoom (left_of self.now) (vec_len self.now.buffer) (vec_len room)
             (vec_capacity room)) }
     {
         let mut room = spare;
         room.resize(self.buffer.len(), 0)?;
-        let most = self.next_most();
-        if most > room.len() {
-            room.reserve(most - room.len())?;
-        }
         Ok(room)
     }
 
     /// The next piece, as `poll_piece` gives it, in memory of its own, as an answer. It takes no memory: a piece of a
-    /// file is given in the body's buffer, in whose place the room stands from then on, and a text is copied into the
-    /// room.
+    /// file is given in the body's buffer, in whose place the room stands from then on, and a text is moved out of the
+    /// body, which keeps none of its memory.
     pub fn take_piece<D: Disk>(&mut self, disk: &mut D, room: Vec<u8>) -> Answer
     where
         F: DavFile<D>,
@@ -281,10 +276,7 @@ impl<F> GetBody<F> {
         ensures loan { D.loan disk.new ≡ D.loan disk.old }
     {
         match self.step(disk) {
-            Given::Text(at) => match &self.parts[at] {
-                BodyPart::Text(text) => copied(text.as_slice(), room),
-                BodyPart::Slice(_) => unreachable!("a text was given"),
-            },
+            Given::Text(at) => Answer::Piece(take_text(&mut self.parts[at])),
             Given::Read(count) => {
                 let bytes = mem::replace(&mut self.buffer, room);
                 front_of(bytes, count)

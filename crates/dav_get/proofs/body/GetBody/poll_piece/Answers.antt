@@ -6,7 +6,7 @@ use Rattle.dav_get.proofs.body.GetBody.poll_piece.Goals as goal
 
 pub returns-in-Text-index : goal.returns-in-Text-index
 returns-in-Text-index g c =
-    let text = text_here c.step.new.self.parts.items c.in-Text.at c.index.result.now c.in-Text-index.text c.in-Text.ensures.inside c.index.ensures c.in-Text-index.is in
+    let text = text_here c.step.new.self.parts.items c.in-Text.at c.index.result.now c.in-Text-index.text c.in-Text.ensures.inside.0 c.index.ensures c.in-Text-index.is in
     let same = c.as_slice.ensures ∙ sym text in
     let P : ℕ → Type 0 = λ n. length c.as_slice.result.now ≤ next_most_of (left_of c.args.self.now) n in
     let bound : P (length c.args.self.now.buffer.items) = rw same c.in-Text.ensures.done.bound in (
