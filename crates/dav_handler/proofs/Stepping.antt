@@ -22,7 +22,7 @@ use Rattle.dav_io.specs.declared.fields.Field.{Field}
 use Rattle.dav_model.specs.Calls.{AsksAtGate, AsksToPoll, AsksToReply}
 use Rattle.dav_model.specs.declared.target.Target.{Target}
 use Rattle.dav_model.specs.declared.target.Target.TheVariants.{At, Methods, Refused, Writes}
-use Rattle.dav_model.specs.Play.{Gets, Lets, Quiet, Stage, Stepped, has_slice}
+use Rattle.dav_model.specs.Play.{Gets, Lets, Quiet, Stage, Stepped, TellsWorld, has_slice}
 use Rattle.dav_model.specs.Rules.{Forgets}
 use Rattle.dav_model.specs.Trail.{Goes, target_of}
 use Rattle.dav_model.proofs.JoiningLemmas.{learns_same, makes_kept}
@@ -39,7 +39,7 @@ use Rattle.dav_handler.specs.Held.{Body, ClosesBody, IsPlaying, handle_of, held_
 use Rattle.dav_handler.specs.Player.{playing_by}
 use Rattle.dav_handler.proofs.Frames.{body_needs, body_over}
 use Rattle.dav_handler.proofs.Handles.{ends_lets, holds_takes, keeps_live}
-use Rattle.dav_handler.proofs.Upkeep.{closes_others, gone_leave, held_none, held_put, held_undone, holds_every, left_all, left_none, left_put, playing_closed, playing_kept, stays_open, turn_every}
+use Rattle.dav_handler.proofs.Upkeep.{closes_others, gone_leave, held_none, held_put, held_undone, holds_every, left_all, left_none, left_put, playing_closed, playing_kept, tells_open, turn_every}
 use Rattle.dav_handler.proofs.Polling.{stay_world}
 
 -- a player, by what it answers by and what it keeps
@@ -83,9 +83,9 @@ gets_found o p body replies at new stays left held holds =
 -- a reply
 pub replied : (o p : Over) (request : Asked) (now : Moment) (found : Found) (replies : ℕ) (at new : ℕ → Option Body)
     → Answers o (said_in request) (target_of o.by.rules request) found p → left_in p.disk new ≡ put replies (parts_in p.disk found.body) (left_in o.disk at)
-    → held_in new ≡ put replies (held_by found.body) (held_in at) → IsPlaying (read_size_of o.by.rules.settings.read_buf_size) p.disk new (replies + 1)
+    → held_in new ≡ put replies (held_by found.body) (held_in at) → TellsWorld p.disk → IsPlaying (read_size_of o.by.rules.settings.read_buf_size) p.disk new (replies + 1)
     → Stepped (staged o.by o.disk replies at) (Request request now) (Ok (Replied found.outcome.status found.outcome.fields replies)) (staged p.by p.disk (replies + 1) new)
-replied o p request now found replies at new answers is held playing = (
+replied o p request now found replies at new answers is held world playing = (
   record {
     goes = goes_only (read_size_of o.by.rules.settings.read_buf_size) o.disk p.disk found.body answers.holds;
     reply = reply_of p.disk found;
@@ -98,7 +98,7 @@ replied o p request now found replies at new answers is held playing = (
     right = answers.right;
     asks = answers.asks;
   },
-  stays_open (read_size_of o.by.rules.settings.read_buf_size) p.disk new p.by (replies + 1) (replies + 1) playing,
+  tells_open (read_size_of o.by.rules.settings.read_buf_size) p.disk new p.by (replies + 1) (replies + 1) world playing,
 )
 
 -- what is left after an answer without a body
@@ -122,9 +122,9 @@ held_joined at new k body o e is = ap held_in is ∙ held_put at k (Some o) ∙ 
 
 -- a request that was refused memory
 pub refused : (o p : Over) (request : Asked) (now : Moment) (replies : ℕ) (at : ℕ → Option Body) (e : NoMemory) → Starves o (said_in request) (target_of o.by.rules request) p
-    → IsPlaying (read_size_of o.by.rules.settings.read_buf_size) o.disk at replies
+    → TellsWorld p.disk → IsPlaying (read_size_of o.by.rules.settings.read_buf_size) o.disk at replies
     → Stepped (staged o.by o.disk replies at) (Request request now) (Err e) (staged p.by p.disk replies at)
-refused o p request now replies at e starves playing = record {
+refused o p request now replies at e starves world playing = record {
   goes = open_goes o.disk p.disk starves.keeps;
   makes = starves.makes;
   knows = p.by.knows;
@@ -137,7 +137,7 @@ refused o p request now replies at e starves playing = record {
     held = held_in at;
     knows = p.by.knows;
   };
-  held = stays_open (read_size_of o.by.rules.settings.read_buf_size) p.disk at p.by replies replies
+  held = tells_open (read_size_of o.by.rules.settings.read_buf_size) p.disk at p.by replies replies world
       (playing_kept (read_size_of o.by.rules.settings.read_buf_size) o.disk p.disk at replies starves.keeps playing);
   asks = starves.asks;
 }
@@ -156,9 +156,9 @@ closed_world s t None e = subst (λ x. Both s.told x.told SameBesidesOpens) (sym
 closed_world s t (Some b) c = stay_world s t b.file (closes_others s t b.file c)
 
 -- a body was abandoned
-pub abandoned : (by : By) (s t : DiskState) (at new : ℕ → Option Body) (replies body : ℕ) → IsPlaying (read_size_of by.rules.settings.read_buf_size) s at replies → ClosesBody (at body) s t → new ≡ put body None at
+pub abandoned : (by : By) (s t : DiskState) (at new : ℕ → Option Body) (replies body : ℕ) → TellsWorld t → IsPlaying (read_size_of by.rules.settings.read_buf_size) s at replies → ClosesBody (at body) s t → new ≡ put body None at
     → Stepped (staged by s replies at) (Abandon body) (Ok Done) (staged by t replies new)
-abandoned by s t at new replies body p closes is = (
+abandoned by s t at new replies body world p closes is = (
   (
     closed_quiet s t (at body) closes,
     closed_world s t (at body) closes,
@@ -170,13 +170,13 @@ abandoned by s t at new replies body p closes is = (
       over = λ e. refl;
     },
   ),
-  stays_open (read_size_of by.rules.settings.read_buf_size) t new by replies replies (playing_closed (read_size_of by.rules.settings.read_buf_size) s t at new replies body p closes is),
+  tells_open (read_size_of by.rules.settings.read_buf_size) t new by replies replies world (playing_closed (read_size_of by.rules.settings.read_buf_size) s t at new replies body p closes is),
 )
 
 -- an ended body was polled
-pub polled_end : (by : By) (s : DiskState) (at : ℕ → Option Body) (replies body : ℕ) → IsPlaying (read_size_of by.rules.settings.read_buf_size) s at replies → at body ≡ None
+pub polled_end : (by : By) (s : DiskState) (at : ℕ → Option Body) (replies body : ℕ) → TellsWorld s → IsPlaying (read_size_of by.rules.settings.read_buf_size) s at replies → at body ≡ None
     → Stepped (staged by s replies at) (Poll body) (Ok End) (staged by s replies at)
-polled_end by s at replies body p none = (
+polled_end by s at replies body world p none = (
   record {
     goes = keeps_goes s s (keeps_same s);
     leaves = (keeps_same s).world;
@@ -191,7 +191,7 @@ polled_end by s at replies body p none = (
     live = subst (λ x. Lets (held_by x) None s.live s.live) (sym none) (refl, refl);
     asks = subst (λ x. AsksToPoll s.told (held_by x) (parts_in s x) End s.asked s.asked) (sym none) refl;
   },
-  stays_open (read_size_of by.rules.settings.read_buf_size) s at by replies replies p,
+  tells_open (read_size_of by.rules.settings.read_buf_size) s at by replies replies world p,
 )
 
 same_world : {E : Type 0} (x : E) (v w : World) → TurnedIn (Err x) v w → SameBesidesOpens v w
@@ -201,28 +201,28 @@ turns_goes : {E : Type 0} (s t : DiskState) (result : Result Unit E) → Turns s
 turns_goes s t result turns = record { faults = rw turns.counts (omega arith); asked = rw turns.asked (omega arith); whole = turns.whole; listers = turns.listers }
 
 -- a turn of the outside
-pub turned_steps : (by : By) (s t : DiskState) (at : ℕ → Option Body) (replies : ℕ) → IsPlaying (read_size_of by.rules.settings.read_buf_size) t at replies → Turns {E = NoMemory} s (Ok tt) t
+pub turned_steps : (by : By) (s t : DiskState) (at : ℕ → Option Body) (replies : ℕ) → TellsWorld t → IsPlaying (read_size_of by.rules.settings.read_buf_size) t at replies → Turns {E = NoMemory} s (Ok tt) t
     → Stepped (staged by s replies at) Turn (Ok Done) (staged by t replies at)
-turned_steps by s t at replies p turns = (
+turned_steps by s t at replies world p turns = (
   (
     record { goes = turns_goes s t (Ok tt) turns; is = refl; faults = turns.counts; asked = turns.asked },
     both_map s.told t.told (TurnedIn {E = NoMemory} (Ok tt)) (λ v w. SameBesidesOpens (turned v) w) (λ v w same. held_besides (turned v) w same) turns.told,
     turns.live,
     ap (λ left. playing_by by replies left (held_in at)) (left_all s t at (turn_every s t (Ok tt) at turns)),
   ),
-  stays_open (read_size_of by.rules.settings.read_buf_size) t at by replies replies p,
+  tells_open (read_size_of by.rules.settings.read_buf_size) t at by replies replies world p,
 )
 
-pub turn_refused : (by : By) (s t : DiskState) (at : ℕ → Option Body) (replies : ℕ) (e : NoMemory) → IsPlaying (read_size_of by.rules.settings.read_buf_size) t at replies → Turns s (Err e) t
+pub turn_refused : (by : By) (s t : DiskState) (at : ℕ → Option Body) (replies : ℕ) (e : NoMemory) → TellsWorld t → IsPlaying (read_size_of by.rules.settings.read_buf_size) t at replies → Turns s (Err e) t
     → Stepped (staged by s replies at) Turn (Err e) (staged by t replies at)
-turn_refused by s t at replies e p turns = record {
+turn_refused by s t at replies e world p turns = record {
   goes = turns_goes s t (Err e) turns;
   makes = λ x. (both_map s.told t.told (TurnedIn {E = NoMemory} (Err e)) SameBesidesOpens (same_world e) turns.told, turns.counts);
   knows = by.knows;
   learns = learns_same s.told by.knows by.knows refl;
   live = turns.live;
   is = ap (λ left. playing_by by replies left (held_in at)) (left_all s t at (turn_every s t (Err e) at turns));
-  held = stays_open (read_size_of by.rules.settings.read_buf_size) t at by replies replies p;
+  held = tells_open (read_size_of by.rules.settings.read_buf_size) t at by replies replies world p;
   asks = turns.asked;
 }
 
@@ -240,10 +240,10 @@ undone_asks by (Refused gate close) status fields asked s m t c asks closes = cl
 
 -- There was no room for the body of an answer, and its file was closed again.
 pub undone_steps : (o p : Over) (t : DiskState) (request : Asked) (now : Moment) (found : Found) (replies : ℕ) (at new : ℕ → Option Body) (b c : Body) (e : NoMemory)
-    → IsPlaying (read_size_of o.by.rules.settings.read_buf_size) o.disk at replies → Answers o (said_in request) (target_of o.by.rules request) found p → found.body ≡ Some b → c ≡ b
+    → TellsWorld t → IsPlaying (read_size_of o.by.rules.settings.read_buf_size) o.disk at replies → Answers o (said_in request) (target_of o.by.rules request) found p → found.body ≡ Some b → c ≡ b
     → Closes handle_of p.disk c.file t → new ≡ at
     → Stepped (staged o.by o.disk replies at) (Request request now) (Err e) (staged p.by t replies new)
-undone_steps o p t request now found replies at new b c e playing answers is same closes unchanged =
+undone_steps o p t request now found replies at new b c e world playing answers is same closes unchanged =
     let keeps = held_undone (read_size_of o.by.rules.settings.read_buf_size) o.disk p.disk t found.body b c answers.holds is same closes in
     subst (λ z. Stepped (staged o.by o.disk replies at) (Request request now) (Err e) (staged p.by t replies z)) (sym unchanged)
     (refused o (record p { disk = t }) request now replies at e (record {
@@ -251,7 +251,7 @@ undone_steps o p t request now found replies at new b c e playing answers is sam
       keeps = open_kept o.disk t keeps;
       makes = λ x. makes_kept (target_of o.by.rules request) o.by.rules o.by.knows (fields_of request) (body_of request) x o.disk t keeps.world;
       asks = undone_asks o.by (target_of o.by.rules request) found.outcome.status found.outcome.fields (fields_of request) o.disk p.disk t c answers.asks closes;
-    }) playing)
+    }) world playing)
 
 -- What a memory knows that learned nothing was known before.
 forgets_of : (m n : MemoryState) → LearnsNothing m n → Forgets (knowledge_of m) (knowledge_of n)
@@ -261,9 +261,9 @@ forgets_of m n learns = record {
 }
 
 -- A purge leaves the disk as it was, and the memory forgets.
-pub purged : (by : By) (s : DiskState) (now : Moment) (m n : MemoryState) (replies : ℕ) (at : ℕ → Option Body) → IsPlaying (read_size_of by.rules.settings.read_buf_size) s at replies → by.knows ≡ knowledge_of m
+pub purged : (by : By) (s : DiskState) (now : Moment) (m n : MemoryState) (replies : ℕ) (at : ℕ → Option Body) → TellsWorld s → IsPlaying (read_size_of by.rules.settings.read_buf_size) s at replies → by.knows ≡ knowledge_of m
     → LearnsNothing m n → Stepped (staged by s replies at) (Purge now) (Ok Done) (staged (record by { knows = knowledge_of n }) s replies at)
-purged by s now m n replies at p same learns = (
+purged by s now m n replies at world p same learns = (
   (refl, refl, (knowledge_of n, refl, subst (λ k. Forgets k (knowledge_of n)) (sym same) (forgets_of m n learns))),
-  stays_open (read_size_of by.rules.settings.read_buf_size) s at (record by { knows = knowledge_of n }) replies replies p,
+  tells_open (read_size_of by.rules.settings.read_buf_size) s at (record by { knows = knowledge_of n }) replies replies world p,
 )

@@ -35,7 +35,7 @@ pub struct Player<D: Disk, R: Remember> {
 
 impl<D: Disk, R: Remember> Player<D, R> {
     ghost use Rattle.dav_handler.specs.Player.{playing_by, playing_of, stage_of};
-    ghost use Rattle.dav_model.specs.Play.{AreFull, StaysOpen, Stepped};
+    ghost use Rattle.dav_model.specs.Play.{AreFull, Stepped, TellsOpen};
     ghost use Rattle.dav_model.specs.Still.{knowing_at};
     ghost use Rattle.dav_local.specs.Shown.{knowledge_of};
     ghost use Rattle.dav_model.specs.declared.step.Step.TheVariants.{Abandon, Poll, Purge, Turn, Request as Asks};
@@ -149,7 +149,7 @@ impl<D: Disk, R: Remember> Player<D, R> {
 
     /// A turn of the outside, as its step is answered.
     pub fn turn(&mut self) -> Result<Answer, NoMemory>
-        ensures held { StaysOpen (D.state self.old.store.disk) (playing_of self.old) }
+        ensures held { TellsOpen (D.state self.old.store.disk) (playing_of self.old) }
         ensures full { AreFull (playing_of self.old) }
         ensures done { Stepped (stage_of self.old) Turn result (stage_of self.new) }
         ensures loan { D.loan self.new.store.disk ≡ D.loan self.old.store.disk }
@@ -221,8 +221,8 @@ impl<D: Disk, R: Remember> Player<D, R> {
         self.poll_over(body, &mut spare)
     }
 
-    /// The next piece of a body, as its step is answered. Its memory is that of `spare`, which has none then, and more
-    /// where that isn't enough; it is taken before the disk is asked.
+    /// The next piece of a body, as its step is answered. A piece of a file has the memory of `spare`, which has none then,
+    /// and more where that isn't enough; it is taken before the disk is asked. A text has its own.
     pub fn poll_over(&mut self, body: u32, spare: &mut Vec<u8>) -> Result<Answer, NoMemory>
         ensures done { Stepped (stage_of self.old) (Poll body) result (stage_of self.new) }
         ensures loan { D.loan self.new.store.disk ≡ D.loan self.old.store.disk }
@@ -243,7 +243,7 @@ impl<D: Disk, R: Remember> Player<D, R> {
     /// that is left is empty.
     pub fn step(&mut self, step: &Step) -> Result<Answer, NoMemory>
         requires { self.old.replies + 1 < 2 ^ 32 }
-        ensures held { StaysOpen (D.state self.old.store.disk) (playing_of self.old) }
+        ensures held { TellsOpen (D.state self.old.store.disk) (playing_of self.old) }
         ensures full { AreFull (playing_of self.old) }
         ensures done { Stepped (stage_of self.old) step.now result (stage_of self.new) }
         ensures purges { PurgesBy step.now (R.state self.old.store.memory) (R.state self.new.store.memory) }
