@@ -5,11 +5,12 @@ use Rattle.dav_io.specs.declared.failure.NoMemory.{NoMemory}
 use Rattle.dav_model.specs.declared.answer.Answer.{Answer}
 use Rattle.dav_model.specs.declared.step.Step.{Step}
 use Rattle.dav_model.specs.declared.step.Step.TheVariants.{Request, Poll, Abandon, Purge, Turn}
-use Rattle.dav_model.specs.Play.{Answered, EachByTree, Ends, PlayedOn, Playing, Plays, Polled, RepliesByTree, Stage, Stands, StepByTree, points_from}
+use Rattle.dav_model.specs.Play.{Answered, EachByTree, PlayedOn, Playing, Plays, Polled, RepliesByTree, Stage, Stands, StepByTree, points_from}
 use Rattle.http.specs.Request.{body_of}
 use Rattle.dav_model.specs.Conditions.{Asked, fields_of}
 use Rattle.dav_model.specs.Trail.{Move, Point, answers_of, last_of, steps_of, target_of}
 use Rattle.dav_model.specs.Valid.{Valid}
+use Rattle.dav_model.proofs.JoiningLemmas.{over}
 use Rattle.dav_bench.specs.Asking.{steps_for}
 
 -- A request was answered, and under `V` by the tree.
@@ -104,23 +105,14 @@ by_steps trail a request now body old new player b e ran =
     let is : trail ≡ f.move ∷ g.move ∷ h.move ∷ [] = f.is ∙ ap (λ z. f.move ∷ z) (g.is ∙ ap (λ z. g.move ∷ z) (h.is ∙ ap (λ z. h.move ∷ z) none)) in
     three_ran f.move g.move h.move a request now body old new player b f.here g.here h.here (subst (λ t. Ran t a old new player b) is ran)
 
--- a run that went well answered all of its steps
-pub no_rest : (rest : List Step) (m b : Stage) → Ends (Ok tt) rest m b → rest ≡ []
-no_rest [] m b ends = refl
-no_rest (x ∷ xs) m b ends = absurd ends
-
-ends_there : (rest : List Step) (m b : Stage) → Ends (Ok tt) rest m b → b ≡ m
-ends_there [] m b ends = ends
-ends_there (x ∷ xs) m b ends = absurd ends
-
 went_well : (a : Stage) (request : Asked) (now : Moment) (body : ℕ) (old new : List Answer) (b : Stage) → PlayedOn a (steps_for request now body) old new (Ok tt) b
     → ThreeMoves a request body old new b
 went_well a request now body old new b p =
     let m : Stage = record { at = last_of a.at p.trail; playing = p.played.player } in
-    let none : p.played.rest ≡ [] = no_rest p.played.rest m b p.played.ends in
+    let end = over p.played.rest m b p.played.ends in
     by_steps p.trail a request now body old new p.played.player b
-    (p.played.steps_are ∙ (ap (λ z. steps_of p.trail ++ z) none ∙ append-nil (steps_of p.trail)))
-    (record { answers = p.played.answers_are; ends = ends_there p.played.rest m b p.played.ends; plays = p.played.answered; tree = p.headline })
+    (p.played.steps_are ∙ (ap (λ z. steps_of p.trail ++ z) end.none ∙ append-nil (steps_of p.trail)))
+    (record { answers = p.played.answers_are; ends = end.at; plays = p.played.answered; tree = p.headline })
 
 pub three_moves : (a : Stage) (request : Asked) (now : Moment) (body : ℕ) (old new : List Answer) (result : Result Unit NoMemory) (b : Stage)
     → result ≡ Ok tt → PlayedOn a (steps_for request now body) old new result b → ThreeMoves a request body old new b

@@ -35,7 +35,7 @@ use Rattle.dav_core.specs.Methods.{method_of}
 use Rattle.dav_model.specs.Gates.{admitted, bulk_of, is_partial, or_refused, unless, weighed, with_method, with_path}
 use Rattle.dav_model.specs.Head.{Reply, Stood}
 use Rattle.dav_model.specs.Shown.{Shown}
-use Rattle.dav_model.specs.Play.{Answered, AreFull, Gets, HasOpen, IsOfTree, MeetsNoLink, Plays, Playing, Polled, Refuses, RepliesByTree, Stage, StaysOpen, Stepped}
+use Rattle.dav_model.specs.Play.{Answered, AreFull, Gets, HasOpen, IsOfTree, MeetsNoLink, Plays, Playing, Polled, Refuses, RepliesByTree, Stage, Stepped, TellsOpen}
 use Rattle.dav_model.specs.Rules.{Rules, plain_rules}
 use Rattle.dav_model.specs.Trail.{Leaves, Move, Point, target_of}
 use Rattle.dav_model.specs.Valid.{Valid}
@@ -209,7 +209,7 @@ pub leaves_by : (p q : Playing) (s t : Point) (request : Asked) (answer : Answer
 leaves_by p q s t request answer path target x = subst (λ z. Makes z p.rules p.knows (fields_of request) (body_of request) (Ok x.reply) s t) target x.makes
 
 right_by : (p q : Playing) (s t : Point) (request : Asked) (now : Moment) (answer : Answer) (path : WebPath) (v w : World) → are_peer_rules p.rules ≡ true → target_of p.rules request ≡ At Get path
-    → s.told ≡ Some v → t.told ≡ Some w → MeetsNone v.tree path → (x : Answered p s t request answer q) → StaysOpen t q
+    → s.told ≡ Some v → t.told ≡ Some w → MeetsNone v.tree path → (x : Answered p s t request answer q) → TellsOpen t q
     → IsRight (query peer_settings (fields_of request) Get path) (shown_in peer_rules v) (Rose s.faults t.faults) x.reply
 right_by p q s t request now answer path v w e target before after none x holds =
     let n = p.rules.settings.read_buf_size in
@@ -249,8 +249,8 @@ same_body v w file (part ∷ parts) same holds = ap₂ ◌++◌ (same_part v w f
 left_is : (p q : Playing) (body : ℕ) (parts : List Part) → Gets body parts p q → q.left body ≡ parts
 left_is p q body parts g = ap (λ (z : Playing). z.left body) g.is ∙ put_same body parts p.left
 
-open_left : (p q : Playing) (t : Point) (body : ℕ) (parts : List Part) (w : World) → Gets body parts p q → StaysOpen t q → t.told ≡ Some w → AllByRecursion (HasOpen w (q.held body)) parts
-open_left p q t body parts w g holds told = subst (AllByRecursion (HasOpen w (q.held body))) (left_is p q body parts g) (holds w told body)
+open_left : (p q : Playing) (t : Point) (body : ℕ) (parts : List Part) (w : World) → Gets body parts p q → TellsOpen t q → t.told ≡ Some w → AllByRecursion (HasOpen w (q.held body)) parts
+open_left p q t body parts w g holds told = subst (AllByRecursion (HasOpen w (q.held body))) (left_is p q body parts g) (holds.files w told body)
 
 -- ---- what is told
 
@@ -304,7 +304,7 @@ module _ (p q : Playing) (s t : Point) (request : Asked) (now : Moment) (answer 
   abbrev Told : Heard → Type 0
   Told told = (world : Option World) × RepliesIn world path asked (Rose before (t.faults + own)) (record { status = status; headers = headers }) (seen_of told [] (Some number) (at_stage t q))
 
-  module _ (is : IsAskedFor path asked request heard) (less : before ≤ s.faults + own) (said : answer ≡ Replied status headers number) (x : Answered p s t request answer q) (holds : StaysOpen t q) where
+  module _ (is : IsAskedFor path asked request heard) (less : before ≤ s.faults + own) (said : answer ≡ Replied status headers number) (x : Answered p s t request answer q) (holds : TellsOpen t q) where
     same_rules_on : q.rules ≡ p.rules
     same_rules_on = ap (λ (z : Playing). z.rules) x.gets.is
 
@@ -315,7 +315,7 @@ module _ (p q : Playing) (s t : Point) (request : Asked) (now : Moment) (answer 
     parts_are = ap q.left number_is ∙ ap (λ (z : Playing). z.left p.replies) x.gets.is ∙ put_same p.replies x.reply.parts p.left
 
     open_parts : (w : World) → t.told ≡ Some w → AllByRecursion (HasOpen w (q.held number)) x.reply.parts
-    open_parts w told = subst (AllByRecursion (HasOpen w (q.held number))) parts_are (holds w told number)
+    open_parts w told = subst (AllByRecursion (HasOpen w (q.held number))) parts_are (holds.files w told number)
 
     told_some : heard ≡ true → are_peer_rules p.rules ≡ true → (v w : World) → s.told ≡ Some v → t.told ≡ Some w → SameBesidesOpens v w → MeetsNone v.tree path
         → seen_of (AskedFor path) [] (Some number) (at_stage t q) ≡ Some (record { world = w; left = body_in w (q.left number) }) → Told (AskedFor path)
@@ -407,7 +407,7 @@ poll_broke whole most cause told (slice number start count ∷ parts) rest (inr 
 
 module _ (heard : Heard) (body : ℕ) (p q : Playing) (s t : Point) where
   -- What was taken of the piece came, and the rest of it is kept.
-  pub polled_piece : (piece came more : List ℕ) → piece ≡ came ++ more → Polled p s t body (Piece piece) q → StaysOpen t q
+  pub polled_piece : (piece came more : List ℕ) → piece ≡ came ++ more → Polled p s t body (Piece piece) q → TellsOpen t q
       → Both (seen_of heard [] (Some body) (at_stage s p)) (seen_of heard more (Some body) (at_stage t q)) (Came came)
   polled_piece piece came more cut x holds = step_seen heard [] more body p q s t x.rest (Came came) x.leaves x.gets
       (λ v w old new same. (
@@ -438,7 +438,7 @@ module _ (heard : Heard) (body : ℕ) (p q : Playing) (s t : Point) where
       let left_same : q.left body ≡ p.left body = ap (λ (z : Playing). z.left body) x.is in
       subst (λ (z : Rules). Both (seen_of heard [] (Some body) (at_stage s p)) (seen_in (tells heard z) [] (q.left body) t.told) (Came [])) (sym rules_same)
       (both_seen (tells heard p.rules) [] [] (p.left body) (q.left body) s.told t.told (Came []) (x.makes e)
-      (λ v w old new same. (same, ap (body_in v) (sym left_same) ∙ same_body v w (q.held body) (q.left body) same (x.held w new body))))
+      (λ v w old new same. (same, ap (body_in v) (sym left_same) ∙ same_body v w (q.held body) (q.left body) same (x.held.files w new body))))
 
 -- What is kept of a piece is given, and the world stays.
 pub gave_kept : (heard : Heard) (body : Option ℕ) (kept came more : List ℕ) (a : Stage) → kept ≡ came ++ more → Both (seen_of heard kept body a) (seen_of heard more body a) (Came came)

@@ -8,14 +8,13 @@ use Rattle.dav_io.specs.declared.clock.Moment.{Moment}
 use Rattle.dav_model.specs.Conditions.{Asked}
 use Rattle.dav_model.specs.Rules.{Knowledge, Rules}
 use Rattle.dav_model.specs.Trail.{Move, Point}
-use Rattle.dav_model.proofs.JoiningLemmas.{step_rules}
+use Rattle.dav_model.proofs.JoiningLemmas.{over, step_rules}
 use Rattle.dav_serving.specs.declared.exchange.Ended.{Ended}
 use Rattle.dav_serving.specs.declared.exchange.Ended.TheVariants.{Open, Closed, SinkFailed, Broke as BrokeOff}
 use Rattle.dav_serving.specs.Exchange.{Exchange, ClosesAfter}
 use Rattle.dav_serving.specs.Ends.{BrokenOff, IsAt, IsAnswerTo, Exchanges, MemoryStopped, SinkStopped, Whole}
 use Rattle.dav_serving.specs.Serving.{ready}
 use Rattle.dav_serving.specs.Stages.{Outlet, Work}
-use Rattle.dav_serving.proofs.WellEnded.{over}
 use Rattle.dav_serving.proofs.RunEnds.{reached_as}
 
 -- the request has these parts and this body, and asks so

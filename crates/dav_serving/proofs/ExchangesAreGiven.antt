@@ -14,10 +14,10 @@ use Rattle.dav_model.specs.Conditions.{fields_of}
 use Rattle.dav_model.specs.Rules.{Rules, Knowledge}
 use Rattle.dav_model.specs.Trail.{Move, Point, answers_of as answers_along, steps_of as steps_along, target_of}
 use Rattle.dav_model.proofs.Framing.{given_length, gives_none}
+use Rattle.dav_model.proofs.JoiningLemmas.{over}
 use Rattle.dav_model.proofs.RightReplies.{replies_framed}
 use Rattle.dav_serving.specs.Exchange.{Exchange, begun_answers, piece_steps, piece_answers, steps_of, answers_of}
 use Rattle.dav_serving.specs.Stages.{PlayedOn}
-use Rattle.dav_serving.proofs.WellEnded.{over}
 
 -- a body that was polled: it gave these pieces, and then this answer
 abbrev pub PolledPieces : List Part → List (List ℕ) → Answer → Type 0

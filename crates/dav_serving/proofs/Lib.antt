@@ -1,4 +1,3 @@
-pub mod WellEnded
 pub mod PlayedByTree
 pub mod StepsArePlayed
 pub mod RequestsAreSome

@@ -10,12 +10,11 @@ use Rattle.dav_model.specs.Play.{Stage}
 use Rattle.dav_model.specs.Rules.{Knowledge, Rules}
 use Rattle.dav_model.specs.Trail.{Move, Point, last_of, points_of}
 use Rattle.dav_model.specs.Valid.{Valid}
-use Rattle.dav_model.proofs.JoiningLemmas.{played_learned, valid_back, valid_front}
+use Rattle.dav_model.proofs.JoiningLemmas.{over, played_learned, valid_back, valid_front}
 use Rattle.dav_serving.specs.ByTree.{AllByTree, moves_of}
 use Rattle.dav_serving.specs.Exchange.{Exchange, answers_of, steps_of}
 use Rattle.dav_serving.specs.Serving.{Chain, Serving, Setup, ready}
 use Rattle.dav_serving.specs.Stages.{Outside}
-use Rattle.dav_serving.proofs.WellEnded.{over}
 
 -- a run that wasn't refused memory ends where its trail leads
 ends_there : {a b : Stage} {steps : List Step} {answers : List Answer} (r : PlayedOn a steps answers (Ok tt) b) → b.at ≡ last_of a.at r.trail

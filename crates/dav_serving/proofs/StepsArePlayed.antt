@@ -8,7 +8,7 @@ use Rattle.dav_model.specs.declared.answer.Answer.{Answer}
 use Rattle.dav_model.specs.declared.answer.Answer.TheVariants.{Done, Reply as Replied}
 use Rattle.dav_model.specs.Conditions.{Asked}
 use Rattle.dav_model.specs.Trail.{Move}
-use Rattle.dav_model.specs.Play.{AreFull, Played, Stage, StaysOpen, Stepped}
+use Rattle.dav_model.specs.Play.{AreFull, Played, Stage, Stepped, TellsOpen}
 use Rattle.dav_model.proofs.JoiningLemmas.{none_played, one_more_played, refused_played}
 use Rattle.dav_handler.specs.Replies.{answered}
 use Rattle.dav_handler.specs.declared.replies.Reply.{Reply}
@@ -26,7 +26,7 @@ turn_done a b answer stepped = stepped.0.0.is
 pub purge_done : (a b : Stage) (now : Moment) (answer : Answer) → Stepped a (Purge now) (Ok answer) b → answer ≡ Done
 purge_done a b now answer stepped = stepped.0.0
 
-module _ (a : Stage) (held : StaysOpen a.at a.playing) (full : AreFull a.playing) where
+module _ (a : Stage) (held : TellsOpen a.at a.playing) (full : AreFull a.playing) where
   -- no step so far
   none : Played [] a [] [] [] (Ok tt) a
   none = none_played a [] [] held full refl

@@ -10,7 +10,7 @@ use dav_handler::{Answer, Player, Remember, Reply};
 use dav_io::{Moment, NoMemory, Octets};
 use http::Request;
 
-/// A turn of the outside and a poll. The piece takes the memory of `spare`.
+/// A turn of the outside and a poll. A piece of a file takes the memory of `spare`.
 pub fn poll_turn<D: Disk, R: Remember>(
     player: &mut Player<D, R>,
     body: u32,

@@ -10,7 +10,7 @@ use Rattle.dav_model.specs.Still.{knowing_at}
 use Rattle.dav_handler.specs.By.{by_store}
 use Rattle.dav_handler.specs.Held.{body_at}
 use Rattle.dav_handler.specs.Player.{stage_of}
-use Rattle.dav_handler.proofs.Upkeep.{stays_full, stays_open}
+use Rattle.dav_handler.proofs.Upkeep.{stays_full, tells_open}
 use Rattle.dav_shared.specs.Books.{MaySettle, kept_by}
 use Rattle.dav_shared.specs.Waits.{waiting}
 use Rattle.dav_sessions.specs.Running.{GoesOn}
@@ -24,7 +24,7 @@ loop-step-init g c =
     record {
       played = (
         [],
-        none_played _ _ _ (stays_open (read_size_of c.args.player.now.settings.read_buf_size) (g.D.Disk.state c.args.player.now.store.disk) (body_at c.args.player.now.bodies) by c.args.player.now.replies c.args.player.now.replies c.args.player.now.ok)
+        none_played _ _ _ (tells_open (read_size_of c.args.player.now.settings.read_buf_size) (g.D.Disk.state c.args.player.now.store.disk) (body_at c.args.player.now.bodies) by c.args.player.now.replies c.args.player.now.replies (g.met.D.Disk.world c.args.player.now.store.disk) c.args.player.now.ok)
             (stays_full (read_size_of c.args.player.now.settings.read_buf_size) (g.D.Disk.state c.args.player.now.store.disk) (body_at c.args.player.now.bodies) by c.args.player.now.replies c.args.player.now.replies c.args.player.now.ok) refl,
       );
       knows = c.requires.knows;
@@ -38,7 +38,7 @@ returns-then-is_err-clause-done g c =
     let (trail, played) = c.loop-step.invariant.played in
     let by = by_store (λ m. kept_by (g.B.Book.names m.cache.now.folder) (waiting m.waits)) c.loop-step.player.settings c.loop-step.player.store in
     played_on trail _ _ _ _ _ _ (refused_at trail _ _ _ c.step-item.result _ _ _ _ _ _ played c.loop-step-test.true c.step-item.is c.reserve.ensures.items
-    (not_begun _ c.step-item.result _ (stays_open (read_size_of c.loop-step.player.settings.read_buf_size) (g.D.Disk.state c.loop-step.player.store.disk) (body_at c.loop-step.player.bodies) by c.loop-step.player.replies c.loop-step.player.replies c.loop-step.player.ok)))
+    (not_begun _ c.step-item.result _ (tells_open (read_size_of c.loop-step.player.settings.read_buf_size) (g.D.Disk.state c.loop-step.player.store.disk) (body_at c.loop-step.player.bodies) by c.loop-step.player.replies c.loop-step.player.replies (g.met.D.Disk.world c.loop-step.player.store.disk) c.loop-step.player.ok)))
 
 pub returns-in-Err-clause-done : goal.returns-in-Err-clause-done
 returns-in-Err-clause-done g c = let (trail, played) = c.loop-step.invariant.played in

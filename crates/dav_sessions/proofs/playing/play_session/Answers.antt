@@ -8,13 +8,13 @@ use Rattle.dav_sessions.proofs.playing.play_session.Goals as goal
 pub returns-then-is_empty : goal.returns-then-is_empty
 returns-then-is_empty g c = record {
   steps = refl;
-  played = plays_none _ _ _ _ _ c.is_empty.result (c.is_empty.ensures ∙ ap (λ (xs : List Step). length xs == 0) c.as_slice-steps.ensures) c.if-is_empty.true;
+  played = plays_none _ _ _ _ _ c.is_empty.result (g.met.D.Disk.world c.args.session.now.disk) (c.is_empty.ensures ∙ ap (λ (xs : List Step). length xs == 0) c.as_slice-steps.ensures) c.if-is_empty.true;
 }
 
 pub returns-in-Err : goal.returns-in-Err
 returns-in-Err g c = record {
   steps = refl;
-  played = plays_unbegun _ _ _ _ _ c.in-Err.error c.is_empty.result (c.is_empty.ensures ∙ ap (λ (xs : List Step). length xs == 0) c.as_slice-steps.ensures) c.if-is_empty.false;
+  played = plays_unbegun _ _ _ _ _ c.in-Err.error c.is_empty.result (g.met.D.Disk.world c.args.session.now.disk) (c.is_empty.ensures ∙ ap (λ (xs : List Step). length xs == 0) c.as_slice-steps.ensures) c.if-is_empty.false;
 }
 
 pub returns-in-Ok : goal.returns-in-Ok
